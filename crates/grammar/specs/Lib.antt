@@ -1,0 +1,16 @@
+pub mod Syntax
+pub mod Plain
+pub mod Productions
+pub mod Reading
+pub mod Derives
+pub mod Grammar
+pub mod Laws
+pub mod Table
+pub mod Samples
+pub mod Faults
+pub mod Steps
+pub mod Starts
+pub mod Laying
+pub mod Readers
+pub mod Plan
+pub mod Read
