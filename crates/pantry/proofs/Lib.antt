@@ -1,0 +1,5 @@
+mod Scans
+mod Formats
+mod Judging
+mod Serving
+mod Energy

@@ -1,0 +1,10 @@
+pub mod Meaning
+pub mod EntryLaws
+pub mod Factors
+pub mod FactorLaws
+pub mod Faults
+pub mod File
+pub mod FileFacts
+pub mod Format
+pub mod Items
+pub mod ItemLaws
