@@ -1,0 +1,11 @@
+pub mod Runs
+pub mod Parts
+pub mod Apart
+pub mod Items
+pub mod Matching
+pub mod Whole
+pub mod Passing
+pub mod Once
+pub mod Exchange
+pub mod Hidden
+pub mod Shown
