@@ -14,7 +14,7 @@ use Rattle.grammar.specs.Syntax as is
 use Rattle.grammar.specs.declared.tree.Operator.the-variants as operator
 use Rattle.grammar.specs.Productions.{Word, name, number, key, mark}
 
--- A type T is `int`, `bool`, `t`, `from m take t` or `(T -> T)`.
+-- the forms of a type, a constructor for each
 pub data TypeWords : List Word → WrittenType → Type 0 where
   intType : (p : ℕ) → TypeWords (key p Int ∷ []) (is.intType p)
   boolType : (p : ℕ) → TypeWords (key p Bool ∷ []) (is.boolType p)
@@ -31,8 +31,7 @@ pub data OperatorWord : Word → ℕ → Operator → Type 0 where
   over : (p : ℕ) → OperatorWord (mark p Over) p operator.Over
   less : (p : ℕ) → OperatorWord (key p Less) p operator.Less
 
--- E is a number, `true`, `false`, `x`, `from m take x`, `zero?(E)`, `(E E)`, `proc (x : T) E`, `let x = E in E`, `if E then E else E`,
--- `letrec T f (x : T) = E in E`, or one of `+ - * / less?` followed by a pair `(E,E)`.
+-- the forms of an expression; `binary` is an operation on a pair, whose sides stand in brackets with a comma between
 pub data ExpWords : List Word → Exp → Type 0 where
   numeral : (p : ℕ) (v : ℤ) → ExpWords (number p v ∷ []) (is.number p v)
   trueWord : (p : ℕ) → ExpWords (key p True ∷ []) (is.boolean p true)
@@ -56,7 +55,7 @@ pub data ExpWords : List Word → Exp → Type 0 where
   binary : (p q r o : ℕ) {w : Word} {op : Operator} {us vs : List Word} {a b : Exp} → OperatorWord w p op → ExpWords us a → ExpWords vs b
       → ExpWords (w ∷ mark q Open ∷ (us ++ (mark r Comma ∷ (vs ++ (mark o Shut ∷ []))))) (is.binary p op a b)
 
--- A declaration is `opaque t`, `transparent t = T` or `x : T`.
+-- the forms of a declaration
 pub data DeclarationWords : List Word → Declaration → Type 0 where
   opaqueType : (p : ℕ) (t : Name) → DeclarationWords (key p Opaque ∷ name t ∷ []) (is.opaqueType p t)
   transparentType : (p q : ℕ) (t : Name) {us : List Word} {a : WrittenType} → TypeWords us a
@@ -64,7 +63,7 @@ pub data DeclarationWords : List Word → Declaration → Type 0 where
   valueOfType : (q : ℕ) (x : Name) {us : List Word} {a : WrittenType} → TypeWords us a
       → DeclarationWords (name x ∷ mark q Colon ∷ us) (is.valueOfType x a)
 
--- A definition is `type t = T` or `x = E`.
+-- the forms of a definition
 pub data DefinitionWords : List Word → Definition → Type 0 where
   typeIs : (p q : ℕ) (t : Name) {us : List Word} {a : WrittenType} → TypeWords us a
       → DefinitionWords (key p TypeWord ∷ name t ∷ mark q Equal ∷ us) (is.typeIs p t a)
@@ -75,7 +74,7 @@ pub data Each {A : Type 0} (D : List Word → A → Type 0) : List Word → List
   noMore : Each D [] []
   oneMore : {us vs : List Word} {a : A} {r : List A} → D us a → Each D vs r → Each D (us ++ vs) (a ∷ r)
 
--- A module is `module m interface [` declarations `] body [` definitions `]`.
+-- a module: its name, its interface in brackets, its body in brackets
 pub data ModuleWords : List Word → Module → Type 0 where
   moduleOf : (p q r o n i j : ℕ) (m : Name) {us vs : List Word} {ds : List Declaration} {fs : List Definition}
       → Each DeclarationWords us ds → Each DefinitionWords vs fs
@@ -83,12 +82,12 @@ pub data ModuleWords : List Word → Module → Type 0 where
       (vs ++ (mark j End ∷ [])))))
       (record { at = p; name = m; interface = ds; body = fs })
 
--- A sheet is any number of modules, then one expression E.
+-- modules, as many as there are, and the closing expression
 pub data SheetWords : List Word → Sheet → Type 0 where
   sheet : {us vs : List Word} {ms : List Module} {e : Exp} → Each ModuleWords us ms → ExpWords vs e
       → SheetWords (us ++ vs) (record { modules = ms; closing = e })
 
--- Levels: an outermost type or expression is level 1, a part one deeper than its whole.
+-- how deep a type or an expression nests: what has no parts is 1 deep, and each form adds 1 to the deepest of its parts
 abbrev pub levelsT : WrittenType → ℕ
 levelsT (is.intType p) = 1
 levelsT (is.boolType p) = 1

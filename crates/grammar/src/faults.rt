@@ -3,7 +3,7 @@ ghost use Rattle.grammar.specs.declared.faults.Fault.the-variants.{Word};
 ghost use Rattle.grammar.specs.Faults.{refusalOf};
 use words::Fault as WordFault;
 
-// Why a text is refused, with the place: an unlawful word, a word that may not stand there or the text's end, a 49th level, a 33rd
+// Why a text is refused, with the place: an unlawful word, a word or an end of the text with which no sheet goes on, a 49th level, a 33rd
 // module, a part for which the tree has no place.
 #[derive(Clone, Copy)]
 pub enum Fault {

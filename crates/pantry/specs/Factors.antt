@@ -10,7 +10,7 @@ use lib.ListN.{getElem?}
 use lib.Chars.{codes}
 use Rattle.language.specs.Pantry.{Pantry, figureByItem, Reply, figureReply, maxMagnitude, fetch}
 
--- factor times grams; none for a negative argument or a product that is no figure
+-- the factor times the grams, unless these are negative or the product is no figure
 abbrev pub energy : ℕ → ℤ → Option Reply
 energy factor (pos n) = cond (leb (factor * n) maxMagnitude) (some (figureReply (pos (factor * n)))) none
 energy factor (negsuc n) = none

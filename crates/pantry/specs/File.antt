@@ -1,4 +1,4 @@
--- The item file: `NUT`, version 1, a count, then as many records of 7 bytes, high bytes first. Assumes nothing.
+-- The item file by places: the letters `NUT`, the version, the count, and the records behind them. Assumes nothing.
 use Prim.Native.Nat.{ℕ, _+_, _*_, zero, suc}
 use mathlib.Core.List.{List, [], _∷_}
 use mathlib.Core.Bool.{Bool, cond, not, _&&_}

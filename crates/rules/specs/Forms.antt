@@ -1,4 +1,4 @@
--- The check, form by form: all parts are typed, then the wants tested, left to right. How types are told and how names are kept is left
+-- The check, form by form: first the types of all parts, then what is wanted of them, each in the order of the text. How types are told and how names are kept is left
 -- open (`Keeping`): the rules tell a type by itself and a name by its bytes, the tables tell a type by its number and a name by its span.
 use mathlib.Core.Bool.{Bool, true, false}
 use Prim.Native.Nat.{ℕ}

@@ -50,7 +50,7 @@ module _ (K : Keeping) (I : ItemKeeping K) where
   abbrev pub suppliedF : Bool → K .Name → K .Scope → I .Left → M K (K .Ty × I .Left)
   suppliedF ofType x body left s = known (I .supplied ofType x body left s) (Missing (K .at x)) s
 
-  -- an opaque name takes any type definition
+  -- for an opaque name any definition of a type will do
   abbrev pub matchOpaqueF : K .Name → K .Scope → I .Left → M K (I .Left)
   matchOpaqueF x body left = do
     d ← suppliedF true x body left

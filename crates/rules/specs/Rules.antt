@@ -39,7 +39,7 @@ use Rattle.rules.specs.Forms.{
 }
 use Rattle.rules.specs.ItemForms.{ItemKeeping}
 
--- the depth of a type: 1, and for an arrow 1 more than its deeper side
+-- how deep a type is: an arrow is one deeper than the deeper of its sides, all others are 1 deep
 abbrev pub depth : ExpandedType → ℕ
 depth int = 1
 depth bool = 1

@@ -57,6 +57,6 @@ passes f (suc n) = f n && passes f n
 abbrev pub entry : List (List Class) → ℕ → Class
 entry rows b = getD (getD rows (b / 16) []) (b % 16) None
 
--- a table has the class of each of the 256 byte values
+-- the table is right at every byte value from 0 to 255
 abbrev pub keepsRule : List (List Class) → Bool
 keepsRule rows = passes (λ b. isClass (entry rows b) (classOf b)) 256

@@ -131,7 +131,7 @@ behind p (fault k q) = p
 abbrev pub nextPlace : List ℕ → ℕ → ℕ
 nextPlace text at = behind (start text at) (scan text at)
 
--- a word is the part of the text that spells it, and not empty: the text goes on with bs at the place p
+-- a word's bytes are those that stand at its place, and there is one at least: the text goes on with bs at the place p
 abbrev pub There : ℕ → List ℕ → Reading → Type 0
 There p bs end = Unit {0}
 There p bs (word k q w) = (q ≡ p) × (take (length w) bs ≡ w) × (0 < length w)
