@@ -25,6 +25,10 @@ APART = [
     ("crates/language/specs/Samples.antt", "no_items", "no-items"),
     ("crates/language/proofs/Samples.antt", "no_items", "no-items"),
     ("crates/grammar/proofs/Plans.antt", "node_at", "node-at"),
+    ("crates/words/proofs/ClassTests.antt", "is_digit", "is-digit"),
+    ("crates/words/proofs/LongestRuns.antt", "is_digit", "is-digit"),
+    ("crates/words/proofs/Stands.antt", "is_digit", "is-digit"),
+    ("crates/words/proofs/Told.antt", "is_digit", "is-digit"),
 ]
 LETTER = r"[\w'′\-₀-₉ℕℤ]"
 WORD = re.compile(r"(?<![\w'′\-₀-₉ℕℤ])[A-Za-z_]" + LETTER + "*")

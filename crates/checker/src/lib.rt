@@ -1,4 +1,6 @@
 // The check of a sheet that was read: scope and types, within the limits and the lent tables.
+#![tactic(auto)]
+
 mod call;
 pub mod checks;
 pub mod copying;

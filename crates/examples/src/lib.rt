@@ -1,4 +1,6 @@
 // Examples of the calls of each layer, as tests. They stand in a crate of their own, so that no layer has to be proved once more for its tests.
+#![tactic(auto)]
+
 #[cfg(test)]
 mod check_tests;
 #[cfg(test)]

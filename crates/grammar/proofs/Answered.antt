@@ -13,7 +13,7 @@ use Rattle.grammar.specs.declared.reader.Reader.{Reader}
 use Rattle.grammar.specs.Syntax.{Sheet, inner_e, inner_m, places, size}
 use Rattle.grammar.specs.Faults.{refusal_of, refusal}
 use Rattle.grammar.specs.Reading.{Out, bad, good, steps, sheet_from, reading}
-use Rattle.grammar.specs.Table.{nodes_s, lay_e, lay_m, lay_of, lay_s, laid}
+use Rattle.grammar.specs.Table.{nodes_s, lay_e, lay_m, lay_of, lay_s}
 use Rattle.grammar.specs.Laying.{State, lifted, lay_sheet, sheet_m}
 use Rattle.grammar.specs.Readers.{Gave}
 use Rattle.grammar.specs.Read.{limit_of, blanked, close_of, filled, Answered, Filled, nodes_read, Promises}

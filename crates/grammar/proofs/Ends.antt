@@ -1,5 +1,5 @@
 -- A text ends at its length, whatever blanks and comments stand there.
-use Rattle.std.proofs.Common.{◌≡◌, ℕ, suc, ◌+◌, ◌-◌, ◌<◌, ◌≤◌, Bool, true, false, cond, not, eqb, leb, List, [], ◌∷◌, length, get_or, take, drop, Some, None, Option as Maybe, sym, refl, ap, subst, arith, length-drop, length-take}
+use Rattle.std.proofs.Common.{◌≡◌, ℕ, suc, ◌+◌, ◌<◌, ◌≤◌, Bool, true, false, cond, not, eqb, leb, List, [], ◌∷◌, length, get_or, take, drop, Some, None, Option as Maybe, sym, refl, ap, subst, arith, length-drop, length-take}
 use Rattle.words.specs.declared.classes.Class.{Class}
 use Rattle.words.specs.declared.classes.Class.TheVariants as class
 use Rattle.words.specs.declared.marks.Mark.{Mark}

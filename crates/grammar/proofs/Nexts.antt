@@ -12,7 +12,7 @@ use Rattle.language.specs.Bindings.{part_of}
 use Rattle.grammar.specs.declared.faults.Fault.TheVariants.{Word}
 use Rattle.grammar.specs.Faults.{refusal_of, refusal}
 use Rattle.grammar.specs.Steps.{step_in, Whole, EndsAt, next_of, TokenFits}
-use Rattle.grammar.specs.Reading.{end, word, fault, steps, step_of}
+use Rattle.grammar.specs.Reading.{end, fault, steps, step_of}
 use Rattle.grammar.proofs.Ends.{steps-lead, Leads}
 
 pub word-refusal : (f : WordFault) → refusal_of (Word f) ≡ refusal (number_of f) (place_of f)

@@ -1,5 +1,5 @@
 -- The names of what is read from a text are parts of the text, each at its place.
-use Rattle.std.proofs.Common.{◌≡◌, ℕ, ◌+◌, List, [], ◌∷◌, ◌++◌, length, take, drop, sym, subst}
+use Rattle.std.proofs.Common.{◌≡◌, ℕ, List, [], ◌∷◌, ◌++◌, length, take, drop, sym, subst}
 use Rattle.words.specs.Words.{Reading, There, scan, start}
 use Rattle.words.specs.Words as words
 use Rattle.words.proofs.Parts.{there}

@@ -1,6 +1,6 @@
 -- The grammar, as a table: each form of a type, an expression, a declaration, a definition and a module, with its symbols in order.
 -- The first symbol of a form is one word, and no two forms of one sort begin alike. Assumes nothing.
-use Rattle.std.specs.Prelude.{ℕ, ◌+◌, Bool, true, false, cond, List, [], ◌∷◌, ℤ, ◌==◌}
+use Rattle.std.specs.Prelude.{ℕ, ◌+◌, true, false, cond, List, [], ◌∷◌, ℤ, ◌==◌}
 use Rattle.std.proofs.Math.Option.{Option, none, some}
 use Rattle.words.specs.declared.keywords.Keyword.{Keyword}
 use Rattle.words.specs.declared.keywords.Keyword.TheVariants as kw

@@ -15,7 +15,7 @@ use words::{Keyword, Mark};
 
 impl Reader<'_, '_> {
     // An expression of at most `levels` levels.
-    #[cycle(application_binary_bound_conditional_expression_expression_form_expression_from_is_zero_let_in_letrec_pair_procedure)]
+    #[cycle(expressions)]
     pub fn expression(&mut self, levels: u8) -> Result<u16, Fault>
         ensures kept { Kept self.old self.new }
         ensures gives { Gives (part_m an_exp levels) result self.old self.new }
@@ -25,7 +25,7 @@ impl Reader<'_, '_> {
     }
 
     // An expression whose first word is `first`.
-    #[cycle(application_binary_bound_conditional_expression_expression_form_expression_from_is_zero_let_in_letrec_pair_procedure)]
+    #[cycle(expressions)]
     pub fn expression_from(&mut self, first: Next, levels: u8) -> Result<u16, Fault>
         requires { Whole (text_of self.old) first }
         ensures kept { Kept self.old self.new }
@@ -42,7 +42,7 @@ impl Reader<'_, '_> {
     }
 
     // The rest of an expression behind its first word, which stands at `at`; its parts have at most `levels` levels.
-    #[cycle(application_binary_bound_conditional_expression_expression_form_expression_from_is_zero_let_in_letrec_pair_procedure)]
+    #[cycle(expressions)]
     fn expression_form(&mut self, start: ExpStart, at: u16, levels: u8) -> Result<u16, Fault>
         ensures kept { Kept self.old self.new }
         ensures gives { Gives (exp_m at levels start) result self.old self.new }
@@ -81,7 +81,7 @@ impl Reader<'_, '_> {
         self.place(Node::Expression(ExpNode::From { at, module, name }), at)
     }
 
-    #[cycle(application_binary_bound_conditional_expression_expression_form_expression_from_is_zero_let_in_letrec_pair_procedure)]
+    #[cycle(expressions)]
     fn is_zero(&mut self, at: u16, levels: u8) -> Result<u16, Fault>
         ensures kept { Kept self.old self.new }
         ensures gives { Gives (is_zero_m at levels) result self.old self.new }
@@ -92,7 +92,7 @@ impl Reader<'_, '_> {
         self.place(Node::Expression(ExpNode::IsZero { at, part }), at)
     }
 
-    #[cycle(application_binary_bound_conditional_expression_expression_form_expression_from_is_zero_let_in_letrec_pair_procedure)]
+    #[cycle(expressions)]
     fn application(&mut self, at: u16, levels: u8) -> Result<u16, Fault>
         ensures kept { Kept self.old self.new }
         ensures gives { Gives (apply_m at levels) result self.old self.new }
@@ -110,7 +110,7 @@ impl Reader<'_, '_> {
         )
     }
 
-    #[cycle(application_binary_bound_conditional_expression_expression_form_expression_from_is_zero_let_in_letrec_pair_procedure)]
+    #[cycle(expressions)]
     fn procedure(&mut self, at: u16, levels: u8) -> Result<u16, Fault>
         ensures kept { Kept self.old self.new }
         ensures gives { Gives (proc_m at levels) result self.old self.new }
@@ -129,7 +129,7 @@ impl Reader<'_, '_> {
     }
 
     // What is bound, and the expression that it is bound in.
-    #[cycle(application_binary_bound_conditional_expression_expression_form_expression_from_is_zero_let_in_letrec_pair_procedure)]
+    #[cycle(expressions)]
     fn bound(&mut self, levels: u8) -> Result<(u16, u16), Fault>
         ensures kept { Kept self.old self.new }
         ensures gives { Gives (bound_m levels) result self.old self.new }
@@ -141,7 +141,7 @@ impl Reader<'_, '_> {
         Ok((bound, body))
     }
 
-    #[cycle(application_binary_bound_conditional_expression_expression_form_expression_from_is_zero_let_in_letrec_pair_procedure)]
+    #[cycle(expressions)]
     fn let_in(&mut self, at: u16, levels: u8) -> Result<u16, Fault>
         ensures kept { Kept self.old self.new }
         ensures gives { Gives (let_m at levels) result self.old self.new }
@@ -159,7 +159,7 @@ impl Reader<'_, '_> {
         )
     }
 
-    #[cycle(application_binary_bound_conditional_expression_expression_form_expression_from_is_zero_let_in_letrec_pair_procedure)]
+    #[cycle(expressions)]
     fn conditional(&mut self, at: u16, levels: u8) -> Result<u16, Fault>
         ensures kept { Kept self.old self.new }
         ensures gives { Gives (if_m at levels) result self.old self.new }
@@ -180,7 +180,7 @@ impl Reader<'_, '_> {
         )
     }
 
-    #[cycle(application_binary_bound_conditional_expression_expression_form_expression_from_is_zero_let_in_letrec_pair_procedure)]
+    #[cycle(expressions)]
     fn letrec(&mut self, at: u16, levels: u8) -> Result<u16, Fault>
         ensures kept { Kept self.old self.new }
         ensures gives { Gives (letrec_m at levels) result self.old self.new }
@@ -204,7 +204,7 @@ impl Reader<'_, '_> {
     }
 
     // A pair, whose sides have at most `levels` levels.
-    #[cycle(application_binary_bound_conditional_expression_expression_form_expression_from_is_zero_let_in_letrec_pair_procedure)]
+    #[cycle(expressions)]
     fn pair(&mut self, levels: u8) -> Result<(u16, u16), Fault>
         ensures kept { Kept self.old self.new }
         ensures gives { Gives (pair_m levels) result self.old self.new }
@@ -217,7 +217,7 @@ impl Reader<'_, '_> {
         Ok((left, right))
     }
 
-    #[cycle(application_binary_bound_conditional_expression_expression_form_expression_from_is_zero_let_in_letrec_pair_procedure)]
+    #[cycle(expressions)]
     fn binary(&mut self, at: u16, operator: Operator, levels: u8) -> Result<u16, Fault>
         ensures kept { Kept self.old self.new }
         ensures gives { Gives (binary_m at operator levels) result self.old self.new }

@@ -1,4 +1,6 @@
 // Reading a sheet into a tree table that the caller lends.
+#![tactic(auto)]
+
 mod expressions;
 pub mod faults;
 mod forms;

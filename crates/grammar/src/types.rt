@@ -16,7 +16,7 @@ use words::{Keyword, Mark};
 
 impl Reader<'_, '_> {
     // A type of at most `levels` levels.
-    #[cycle(arrow_ty_type_form_type_from)]
+    #[cycle(types)]
     pub fn ty(&mut self, levels: u8) -> Result<u16, Fault>
         ensures kept { Kept self.old self.new }
         ensures gives { Gives (part_m a_type levels) result self.old self.new }
@@ -26,7 +26,7 @@ impl Reader<'_, '_> {
     }
 
     // A type whose first word is `first`.
-    #[cycle(arrow_ty_type_form_type_from)]
+    #[cycle(types)]
     fn type_from(&mut self, first: Next, levels: u8) -> Result<u16, Fault>
         requires { Whole (text_of self.old) first }
         ensures kept { Kept self.old self.new }
@@ -43,7 +43,7 @@ impl Reader<'_, '_> {
     }
 
     // The rest of a type behind its first word, which stands at `at`; its parts have at most `levels` levels.
-    #[cycle(arrow_ty_type_form_type_from)]
+    #[cycle(types)]
     fn type_form(&mut self, start: TypeStart, at: u16, levels: u8) -> Result<u16, Fault>
         ensures kept { Kept self.old self.new }
         ensures gives { Gives (type_m at levels start) result self.old self.new }
@@ -67,7 +67,7 @@ impl Reader<'_, '_> {
         self.place(Node::Type(TypeNode::From { at, module, name }), at)
     }
 
-    #[cycle(arrow_ty_type_form_type_from)]
+    #[cycle(types)]
     fn arrow(&mut self, at: u16, levels: u8) -> Result<u16, Fault>
         ensures kept { Kept self.old self.new }
         ensures gives { Gives (arrow_m at levels) result self.old self.new }

@@ -1,4 +1,6 @@
 // Running a sheet that passed the check, over lent tables of cells and frames.
+#![tactic(auto)]
+
 mod actions;
 pub mod answers;
 mod arithmetic;

@@ -30,7 +30,7 @@ const LINKS: u16 = 65535;
 
 // The nearest binding of a name, from a link on. Links are followed as they stand, whatever the table holds.
 pub fn nearest<T: Holds>(text: &[u8], table: &[T], start: u16, name: &[u8]) -> Option<T::Value>
-    ensures { result ≡ option_of (nearest_in (bindings_in held text.now table.now) start name.now) }
+    ensures { result ≡ option_of (nearest_in (bindings_in T.held text.now table.now) start name.now) }
 {
     let mut link = start;
     let mut left = LINKS;

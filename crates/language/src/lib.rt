@@ -1,4 +1,6 @@
 // The language: its theorems, and the one search along chains of bindings.
+#![tactic(auto)]
+
 pub mod bindings;
 pub mod spans;
 pub mod theorems;

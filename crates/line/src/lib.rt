@@ -1,4 +1,6 @@
 // The one line that tells the outcome of a sheet.
+#![tactic(auto)]
+
 pub mod answers;
 mod buffer;
 pub mod faults;

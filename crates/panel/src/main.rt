@@ -1,4 +1,6 @@
 // Reads a sheet from the standard input and prints one line on it.
+#![tactic(auto)]
+
 use grammar::Node;
 use std::io::Read;
 

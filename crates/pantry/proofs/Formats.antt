@@ -1,5 +1,5 @@
 -- The definition of the format by places agrees with the one by what is written.
-use Rattle.std.proofs.Common.{◌≡◌, ℕ, zero, suc, ◌+◌, ◌-◌, ◌*◌, ◌/◌, ◌%◌, ◌<◌, ◌≤◌, true, List, [], ◌∷◌, ◌++◌, length, get_or, drop, sym, refl, ap, ◌∙◌, append_assoc, div-add-mod', arith, length-append, drop-cons, get_or-append-add, eq-eqb, le-leb}
+use Rattle.std.proofs.Common.{◌≡◌, ℕ, zero, suc, ◌+◌, ◌*◌, ◌/◌, ◌%◌, ◌<◌, ◌≤◌, true, List, [], ◌∷◌, ◌++◌, length, get_or, drop, sym, refl, ap, ◌∙◌, append_assoc, div-add-mod', arith, length-append, drop-cons, get_or-append-add, eq-eqb, le-leb}
 use lib.Arith.{digits_div, digits_mod}
 use lib.Seq.{drop-length}
 use Rattle.pantry.specs.declared.records.Record.{Record}

@@ -1,4 +1,6 @@
 // The pantry: where a sheet's figures come from.
+#![tactic(auto)]
+
 pub mod entries;
 pub mod factors;
 pub mod faults;

@@ -24,7 +24,7 @@ pub trait Pantry {
 
 // The fetch, with the fault that says what was asked for.
 pub fn ask<P: Pantry>(pantry: &P, entry: u8, argument: i32) -> Result<Answer, NoAnswer>
-    ensures { Asked (meaning pantry.now) «entry» argument result }
+    ensures { Asked (P.meaning pantry.now) «entry» argument result }
 {
     match pantry.fetch(usize::from(entry), argument) {
         Some(answer) => Ok(answer),

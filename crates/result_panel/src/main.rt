@@ -1,4 +1,6 @@
 // Reads the item file of its working folder and a sheet from the standard input, and prints the line on them.
+#![tactic(auto)]
+
 use pantry::loading::EMPTY_FILE;
 use results::Setup;
 use std::io::{Read, Write};

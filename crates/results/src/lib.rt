@@ -1,4 +1,6 @@
 // From the bytes of an item file and of a sheet to the line that is printed.
+#![tactic(auto)]
+
 pub mod printing;
 pub mod setups;
 mod telling;

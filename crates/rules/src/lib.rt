@@ -1,2 +1,4 @@
+#![tactic(auto)]
+
 pub mod faults;
 pub mod theorems;

@@ -1,4 +1,6 @@
 // Runs the sheets of the data file `sheets.txt`, which says how it is written, and prints the line of each.
+#![tactic(auto)]
+
 mod cases;
 mod words;
 

@@ -85,7 +85,7 @@ impl Tables<'_, '_, '_> {
     }
 
     // `zero?`.
-    #[cycle(apply_binary_body_conditional_is_zero_let_in_letrec_procedure_type_of)]
+    #[cycle(expressions)]
     fn is_zero(&mut self, scope: Scope, p: u16, levels: u8) -> Result<u16, CheckFault>
         requires { HasExp self.old.given levels p }
         ensures kept { Kept self.old self.new }
@@ -99,7 +99,7 @@ impl Tables<'_, '_, '_> {
     }
 
     // An operation on a pair.
-    #[cycle(apply_binary_body_conditional_is_zero_let_in_letrec_procedure_type_of)]
+    #[cycle(expressions)]
     fn binary(
         &mut self,
         scope: Scope,
@@ -125,7 +125,7 @@ impl Tables<'_, '_, '_> {
     }
 
     // An application.
-    #[cycle(apply_binary_body_conditional_is_zero_let_in_letrec_procedure_type_of)]
+    #[cycle(expressions)]
     fn apply(&mut self, scope: Scope, p: u16, q: u16, levels: u8) -> Result<u16, CheckFault>
         requires has_exp { HasExp self.old.given levels p }
         requires has_exp_2 { HasExp self.old.given levels q }
@@ -144,7 +144,7 @@ impl Tables<'_, '_, '_> {
     }
 
     // `proc`.
-    #[cycle(apply_binary_body_conditional_is_zero_let_in_letrec_procedure_type_of)]
+    #[cycle(expressions)]
     fn procedure(
         &mut self,
         scope: Scope,
@@ -166,7 +166,7 @@ impl Tables<'_, '_, '_> {
     }
 
     // `let`.
-    #[cycle(apply_binary_body_conditional_is_zero_let_in_letrec_procedure_type_of)]
+    #[cycle(expressions)]
     fn let_in(
         &mut self,
         scope: Scope,
@@ -187,7 +187,7 @@ impl Tables<'_, '_, '_> {
     }
 
     // `if`.
-    #[cycle(apply_binary_body_conditional_is_zero_let_in_letrec_procedure_type_of)]
+    #[cycle(expressions)]
     fn conditional(
         &mut self,
         scope: Scope,
@@ -215,7 +215,7 @@ impl Tables<'_, '_, '_> {
     }
 
     // The body of a `letrec`, with its parameter at the type `a`: it has to have the type `b`.
-    #[cycle(apply_binary_body_conditional_is_zero_let_in_letrec_procedure_type_of)]
+    #[cycle(expressions)]
     fn body(
         &mut self,
         scope: Scope,
@@ -239,7 +239,7 @@ impl Tables<'_, '_, '_> {
     }
 
     // `letrec`.
-    #[cycle(apply_binary_body_conditional_is_zero_let_in_letrec_procedure_type_of)]
+    #[cycle(expressions)]
     fn letrec(
         &mut self,
         scope: Scope,
@@ -268,7 +268,7 @@ impl Tables<'_, '_, '_> {
     }
 
     // The number of the type of the expression at `i`.
-    #[cycle(apply_binary_body_conditional_is_zero_let_in_letrec_procedure_type_of)]
+    #[cycle(expressions)]
     pub fn type_of(&mut self, scope: Scope, i: u16, levels: u8) -> Result<u16, CheckFault>
         requires { HasExp self.old.given levels i }
         ensures kept { Kept self.old self.new }

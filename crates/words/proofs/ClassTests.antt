@@ -36,8 +36,8 @@ module _ (b : ℕ) where
   pub is-letter : is_class Letter (class_of b) ≡ letter b
   is-letter = told Letter (class_of b) (letter b) (λ e. grind (arith, nat_tests)) (λ e. grind (arith, nat_tests))
 
-  pub is_digit : is_class Digit (class_of b) ≡ digit b
-  is_digit = told Digit (class_of b) (digit b) (λ e. grind (arith, nat_tests)) (λ e. grind (arith, nat_tests))
+  pub is-digit : is_class Digit (class_of b) ≡ digit b
+  is-digit = told Digit (class_of b) (digit b) (λ e. grind (arith, nat_tests)) (λ e. grind (arith, nat_tests))
 
   pub is-dash : is_class Dash (class_of b) ≡ eqb b 45
   is-dash = told Dash (class_of b) (eqb b 45) (λ e. grind (arith, nat_tests)) (λ e. grind (arith, nat_tests))

@@ -5,7 +5,7 @@ use Rattle.std.proofs.lemmas.Bool.{cond-true, cond-false, cases_Bool}
 use Rattle.words.specs.Classes.{class_of}
 use Rattle.words.specs.Words.{goes, name_run, digit_run}
 use Rattle.words.specs.Laws.{Test, name_byte, digit_byte, Passes, Stops}
-use Rattle.words.proofs.ClassTests.{is-letter, is_digit, is-query, is-dash}
+use Rattle.words.proofs.ClassTests.{is-letter, is-digit, is-query, is-dash}
 
 -- f tells how many bytes at the front pass the test t
 pub record Counts (t : Test) (f : List ℕ → ℕ) : Type 0 where
@@ -41,10 +41,10 @@ module _ {t : Test} {f : List ℕ → ℕ} (counts : Counts t f) where
   run_is (b ∷ w) rest h s = passed b (w ++ rest) h.0 ∙ ap suc (run_is w rest h.1 s)
 
 pub name-byte : (b : ℕ) (bs : List ℕ) → goes (class_of b) bs ≡ name_byte b bs
-name-byte b bs = rw (is-letter b, is_digit b, is-query b, is-dash b)
+name-byte b bs = rw (is-letter b, is-digit b, is-query b, is-dash b)
 
 pub name-counts : Counts name_byte name_run
 name-counts = record { none = refl; more = λ b bs. ap (λ x. cond x (1 + name_run bs) 0) (name-byte b bs) }
 
 pub digit-counts : Counts digit_byte digit_run
-digit-counts = record { none = refl; more = λ b bs. ap (λ x. cond x (1 + digit_run bs) 0) (is_digit b) }
+digit-counts = record { none = refl; more = λ b bs. ap (λ x. cond x (1 + digit_run bs) 0) (is-digit b) }

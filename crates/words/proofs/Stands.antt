@@ -10,12 +10,12 @@ use Rattle.words.specs.declared.marks.Mark.TheVariants.{Arrow, Minus}
 use Rattle.words.specs.Classes.{letter, digit, mark as single, class_of, is_class}
 use Rattle.words.specs.Spelling.{keyword_of, mark_of, drawn, marks}
 use Rattle.words.specs.Words.{Reading, gap, name_run, digit_run, is_digit, is_letter, value, largest, size_of, name_kind, named, figured}
-use Rattle.words.specs.Words.{numbered, dashed, marked, begins, first}
+use Rattle.words.specs.Words.{numbered, dashed, marked, first}
 use Rattle.words.specs.Words.Kind.{number, mark}
 use Rattle.words.specs.Words.Reading.{end, word, fault}
 use Rattle.words.specs.Laws.{name_byte, Stops, NameRun, Numeral, Spells, Faulty}
 use Rattle.words.specs.Laws.Faulty.{stray, letter_behind, long_name, large_number}
-use Rattle.words.proofs.ClassTests.{is-letter, is_digit, is-dash, is-mark}
+use Rattle.words.proofs.ClassTests.{is-letter, is-digit, is-dash, is-mark}
 use Rattle.words.proofs.LongestRuns.{passed, run-le, run-passes, run-stops, name-counts, digit-counts}
 use Rattle.words.proofs.Gaps.{gap-begins}
 use Rattle.words.proofs.Runs.{head-drop}
@@ -123,10 +123,10 @@ stands-dashed p bs =
     let arrow = word (mark Arrow) p (drawn Arrow) in
     let minus = word (mark Minus) p (drawn Minus) in
     cond_both (is_digit (class_of next)) (numbered p 1 (45 ∷ bs)) (cond (eqb next 62) arrow minus) (Stands p (45 ∷ bs))
-    (λ t. stands-negative p bs (sym (is_digit next) ∙ t))
+    (λ t. stands-negative p bs (sym (is-digit next) ∙ t))
     (λ t. cond_both (eqb next 62) arrow minus (Stands p (45 ∷ bs))
     (λ u. (refl, λ e. let z : ◌≡◌ {A = ℕ} 0 1 = cc in absurd (omega arith)))
-    (λ u. (refl, λ e. (heads digit bs (sym (is_digit next) ∙ t), heads (λ b. eqb b 62) bs u))))
+    (λ u. (refl, λ e. (heads digit bs (sym (is-digit next) ∙ t), heads (λ b. eqb b 62) bs u))))
 
 -- each byte of the class of marks is one
 is-marked : (b : ℕ) → single b ≡ true → is_some (mark_of b) ≡ true
@@ -159,11 +159,11 @@ stands p (b ∷ bs) z =
     let digits = cond (is_digit c) (numbered p 0 xs) dashes in
     cond_both (is_letter c) (named p (take (name_run xs) xs)) digits (Stands p xs) (λ l. stands-named p b bs (sym (is-letter b) ∙ l))
     (λ l. cond_both (is_digit c) (numbered p 0 xs) dashes (Stands p xs)
-    (λ d. stands-digits p b bs (sym (is_digit b) ∙ d) (no-dash b (sym (is_digit b) ∙ d)))
+    (λ d. stands-digits p b bs (sym (is-digit b) ∙ d) (no-dash b (sym (is-digit b) ∙ d)))
     (λ d. cond_both (is_class Dash c) (dashed p xs) signed (Stands p xs)
     (λ h. subst (λ x. Stands p (x ∷ bs) (dashed p (x ∷ bs))) (sym (eqb-true b 45 (sym (is-dash b) ∙ h))) (stands-dashed p bs))
     (λ h. cond_both (is_class Sign c) (marked p (mark_of b)) (fault 2 p) (Stands p xs)
     (λ m. stands-marked p b bs (mark_of b) refl (sym (is-mark b) ∙ m))
     (λ m. stray refl refl (omega arith)
     (or_from _ _ (or_from _ _ (or_from _ _ (or_from _ _ (or_from _ _ not-blank not-percent) (sym (is-letter b) ∙ l))
-    (sym (is_digit b) ∙ d)) (sym (is-dash b) ∙ h)) (sym (is-mark b) ∙ m))))))
+    (sym (is-digit b) ∙ d)) (sym (is-dash b) ∙ h)) (sym (is-mark b) ∙ m))))))

@@ -9,12 +9,12 @@ use Rattle.words.specs.declared.marks.Mark.TheVariants.{Open, Shut, Begin, End, 
 use Rattle.words.specs.Classes.{letter, digit, blank, mark as single, class_of, is_class}
 use Rattle.words.specs.Spelling.{keyword_of, drawn}
 use Rattle.words.specs.Words.{Reading, Kind, gap, name_run, is_digit, is_letter, value, largest, size_of, name_kind, named, figured}
-use Rattle.words.specs.Words.{numbered, dashed, begins, first}
+use Rattle.words.specs.Words.{numbered, dashed, first}
 use Rattle.words.specs.Words.Kind.{name, number, keyword, mark}
 use Rattle.words.specs.Words.Reading.{word, fault}
 use Rattle.words.specs.Laws.{digit_byte, letter_byte, arrow_byte, known, Passes, Stops, NameRun, Numeral, Spells, Faulty}
 use Rattle.words.specs.Laws.Faulty.{stray, letter_behind, long_name, large_number}
-use Rattle.words.proofs.ClassTests.{is-letter, is_digit, is-dash, is-mark}
+use Rattle.words.proofs.ClassTests.{is-letter, is-digit, is-dash, is-mark}
 use Rattle.words.proofs.LongestRuns.{run_is, name-counts, digit-counts}
 use Rattle.words.proofs.Gaps.{at-word}
 
@@ -66,7 +66,7 @@ digit-apart b h = (grind (arith, nat_tests), grind (arith, nat_tests), grind (ar
 
 at-digit : (p b : ℕ) (bs : List ℕ) → digit b ≡ true → first p (b ∷ bs) ≡ numbered p 0 (b ∷ bs)
 at-digit p b bs h =
-    cond-false (is_letter (class_of b)) _ _ (is-letter b ∙ (digit-apart b h).2) ∙ cond-true (is_digit (class_of b)) _ _ (is_digit b ∙ h)
+    cond-false (is_letter (class_of b)) _ _ (is-letter b ∙ (digit-apart b h).2) ∙ cond-true (is_digit (class_of b)) _ _ (is-digit b ∙ h)
 
 reads-digits : (p : ℕ) (ds rest : List ℕ) → 0 < length ds → Passes digit_byte ds rest → Stops digit_byte rest
     → Reads p (ds ++ rest) (outcome p ds rest)
@@ -88,7 +88,7 @@ reads-negative p (d ∷ ds) rest some ps st =
     let xs : List ℕ = 45 ∷ d ∷ (ds ++ rest) in
     let size : size_of (45 ∷ d ∷ ds) ≡ value (take (length (d ∷ ds)) (d ∷ (ds ++ rest))) =
     ap value (sym (take_at (d ∷ ds) rest (length (d ∷ ds)) refl)) in (
-      cond-true (is_digit (class_of d)) (numbered p 1 xs) _ (is_digit d ∙ ps.0)
+      cond-true (is_digit (class_of d)) (numbered p 1 xs) _ (is-digit d ∙ ps.0)
           ∙ ap (λ n. figured p 1 n xs) (run_is digit-counts (d ∷ ds) rest ps st)
           ∙ figured-is p 1 (length (d ∷ ds)) (45 ∷ d ∷ ds) rest (one-add (length (d ∷ ds))) size,
       refl,
@@ -119,7 +119,7 @@ reads-mark p Minus rest h = (minus rest (h refl).0 (h refl).1, refl)
   where
     minus : (rest : List ℕ) → Stops digit_byte rest → Stops arrow_byte rest → dashed p (45 ∷ rest) ≡ word (mark Minus) p (drawn Minus)
     minus [] d a = refl
-    minus (b ∷ bs) d a = cond-false (is_digit (class_of b)) _ _ (is_digit b ∙ d) ∙ cond-false (eqb b 62) _ _ a
+    minus (b ∷ bs) d a = cond-false (is_digit (class_of b)) _ _ (is-digit b ∙ d) ∙ cond-false (eqb b 62) _ _ a
 reads-mark p Times rest h = (refl, refl)
 reads-mark p Over rest h = (refl, refl)
 
@@ -149,7 +149,7 @@ reads-stray p (b ∷ bs) some h =
     let (h2, not_digit) = or_parts (blank b || eqb b 37 || letter b) (digit b) h3 in
     let (h1, not-letter) = or_parts (blank b || eqb b 37) (letter b) h2 in
     let (not-blank, not-percent) = or_parts (blank b) (eqb b 37) h1 in (
-      cond-false (is_letter (class_of b)) _ _ (is-letter b ∙ not-letter) ∙ cond-false (is_digit (class_of b)) _ _ (is_digit b ∙ not_digit)
+      cond-false (is_letter (class_of b)) _ _ (is-letter b ∙ not-letter) ∙ cond-false (is_digit (class_of b)) _ _ (is-digit b ∙ not_digit)
           ∙ cond-false (is_class Dash (class_of b)) _ _ (is-dash b ∙ not-dash)
           ∙ cond-false (is_class Sign (class_of b)) _ _ (is-mark b ∙ not-mark),
       at-word b bs not-blank not-percent,

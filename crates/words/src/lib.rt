@@ -1,4 +1,6 @@
 // The words of a sheet.
+#![tactic(auto)]
+
 pub mod classes;
 pub mod faults;
 pub mod keywords;

@@ -1,4 +1,4 @@
-use Rattle.std.proofs.Common.{◌≡◌, ℕ, suc, ◌-◌, ◌<◌, ◌≤◌, Bool, true, false, length, Some, sym, ap, ◌∙◌, arith}
+use Rattle.std.proofs.Common.{◌≡◌, suc, ◌-◌, ◌<◌, true, false, length, sym, ap, ◌∙◌, arith}
 use Rattle.words.specs.Names.{same_name}
 use Rattle.language.specs.Scopes.{nearest_in}
 use Rattle.language.proofs.Searches.{at_count, at-empty, at-past, at_none, at-binding}
@@ -9,21 +9,21 @@ use Rattle.language.proofs.bindings.nearest.Goals.{
   else-loop-left-test,
 }
 
-pub returns-in-default : goal.returns-in-default
+pub returns-in_default : goal.returns-in_default
 unfolding nearest_in
-returns-in-default g c =
+returns-in_default g c =
     let l : c.loop-left.link ≡ suc (c.from-in-loop-left.result - 1) = omega arith in
     let h : c.from-in-loop-left.result - 1 < length c.args.table.now = omega arith in
     sym (c.loop-left.invariant ∙ at_none g.T.Holds.held c.args.text.now c.args.table.now _ _ l _ h c.index-table-from.is _ _
-    (sym c.in-default.is ∙ c.binding.ensures))
+    (sym c.in_default.is ∙ c.binding.ensures))
 
-pub returns-then-same-name : goal.returns-then-same-name
+pub returns-then-same_name : goal.returns-then-same_name
 unfolding nearest_in
-returns-then-same-name g c =
+returns-then-same_name g c =
     let l : c.loop-left.link ≡ suc (c.from-in-loop-left.result - 1) = omega arith in
     let h : c.from-in-loop-left.result - 1 < length c.args.table.now = omega arith in
     let n : c.loop-left.left ≡ suc (c.loop-left.left - 1) = omega arith in
-    let d = c.if-same-name.ensures ∙ ap (λ (y : _). same_name y c.args.name.now) c.spelled.ensures in
+    let d = c.if-same_name.ensures ∙ ap (λ (y : _). same_name y c.args.name.now) c.spelled.ensures in
     sym (c.loop-left.invariant ∙ at-binding g.T.Holds.held c.args.text.now c.args.table.now _ _ l _ h c.index-table-from.is
     _ _ _ _ true n (sym c.in-Some.is ∙ c.binding.ensures) d)
 
@@ -32,7 +32,7 @@ loop-left-preserved g c =
     let l : c.loop-left.link ≡ suc (c.from-in-loop-left.result - 1) = omega arith in
     let h : c.from-in-loop-left.result - 1 < length c.args.table.now = omega arith in
     let n : c.loop-left.left ≡ suc (c.loop-left.left - 1) = omega arith in
-    let d = c.if-same-name.ensures ∙ ap (λ (y : _). same_name y c.args.name.now) c.spelled.ensures in
+    let d = c.if-same_name.ensures ∙ ap (λ (y : _). same_name y c.args.name.now) c.spelled.ensures in
     c.loop-left.invariant ∙ at-binding g.T.Holds.held c.args.text.now c.args.table.now _ _ l _ h c.index-table-from.is
     _ _ _ _ false n (sym c.in-Some.is ∙ c.binding.ensures) d
 

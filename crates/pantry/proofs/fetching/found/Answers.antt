@@ -8,11 +8,11 @@ use Rattle.pantry.proofs.fetching.found.Goals as goal
 pub returns-then-argument-gt65535 : goal.returns-then-argument-gt65535
 returns-then-argument-gt65535 c =
     let h : pos 65535 <ℤ c.args.argument = omega (arith, ints) in
-    sym (found-large c.args.file.now c.args.argument (λ i. (c.type-inv.file i).fits) h)
+    sym (found-large c.args.file.now c.args.argument (λ i. (c.type_inv.file i).fits) h)
 
 pub find-requires : goal.find-requires
 find-requires c =
-    let n : c.from.result ≡ count_of c.args.file.now = c.from.ensures ∙ c.count-of.ensures in
+    let n : c.from.result ≡ count_of c.args.file.now = c.from.ensures ∙ c.count_of.ensures in
     omega (arith, exact c.args.file.now (header c.args.file.now c.requires))
 
 pub returns : goal.returns

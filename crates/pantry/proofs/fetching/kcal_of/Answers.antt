@@ -3,8 +3,8 @@ use Rattle.pantry.specs.ItemLaws.{found-small}
 use Rattle.pantry.proofs.Scans.{kcal-out}
 use Rattle.pantry.proofs.fetching.kcal_of.Goals as goal
 
-pub overflow-cast-result : goal.overflow-cast-result
-overflow-cast-result c = let s = found-small c.args.file.now _ _ c.requires (sym c.in-Some.ensures) in search rules
+pub overflow_cast-result : goal.overflow_cast-result
+overflow_cast-result c = let s = found-small c.args.file.now _ _ c.requires (sym c.in-Some.ensures) in search rules
 
 pub returns-in-Some : goal.returns-in-Some
 returns-in-Some c =

@@ -10,9 +10,9 @@ pub returns-then-file-ne78 : goal.returns-then-file-ne78
 unfolding header_ok
 returns-then-file-ne78 c = search rules
 
-pub returns-then-two-at-ne1 : goal.returns-then-two-at-ne1
+pub returns-then-two_at-ne1 : goal.returns-then-two_at-ne1
 unfolding header_ok
-returns-then-two-at-ne1 c = search rules
+returns-then-two_at-ne1 c = search rules
 
 pub returns-then-count-le1000 : goal.returns-then-count-le1000
 unfolding header_ok

@@ -24,7 +24,7 @@ pub loop-digit-preserved : goal.loop-digit-preserved
 loop-digit-preserved c = (
   omega arith,
   ap (λ z. onward (c.loop-digit.size * 10 + z) (drop (c.loop-digit.digit-index + 1) c.args.digits.now))
-      (c.from.ensures ∙ c.saturating-sub.ensures)
+      (c.from.ensures ∙ c.saturating_sub.ensures)
       ∙ sym (at_drop_more (onward c.loop-digit.size) c.args.digits.now c.loop-digit.digit-index 0 c.loop-digit-test.true)
       ∙ c.loop-digit.invariant.1,
 )

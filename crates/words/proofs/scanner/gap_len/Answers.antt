@@ -4,14 +4,14 @@ use Rattle.words.proofs.Runs.{stops, more, all, in-comment, at-blank, at-percent
 use Rattle.words.proofs.scanner.gap_len.Goals as goal
 use Rattle.words.proofs.scanner.gap_len.Goals.{then-comment, else-comment+in-Blank, else-comment+in-Percent}
 
-pub returns-in-default : goal.returns-in-default
-returns-in-default c =
+pub returns-in_default : goal.returns-in_default
+returns-in_default c =
     let b = get_or c.args.rest.now c.loop-n.n 0 in
     let bs = drop (c.loop-n.n + 1) c.args.rest.now in
     record {
       value = stops (gap c.loop-n.comment) _ _ _ c.loop-n.invariant c.loop-n-test.true
-          (at-word _ c.loop-n.comment b bs _ c.if-comment.false c.class-of.ensures c.in-default.not-Blank
-          c.in-default.not-Percent);
+          (at-word _ c.loop-n.comment b bs _ c.if-comment.false c.class_of.ensures c.in_default.not-Blank
+          c.in_default.not-Percent);
       within = omega arith;
     }
 

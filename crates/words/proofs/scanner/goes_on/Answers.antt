@@ -5,5 +5,5 @@ use Rattle.words.proofs.scanner.goes_on.Goals as goal
 
 pub returns-in-Dash : goal.returns-in-Dash
 returns-in-Dash c =
-    ap (λ b. not (eqb b 62)) (c.byte-at.ensures ∙ sym (head-drop c.args.rest.now (c.args.n + 1)))
+    ap (λ b. not (eqb b 62)) (c.byte_at.ensures ∙ sym (head-drop c.args.rest.now (c.args.n + 1)))
     ∙ ap (λ k. goes k (drop (c.args.n + 1) c.args.rest.now)) c.in-Dash.ensures

@@ -7,15 +7,15 @@ use Rattle.words.specs.Lexing.{lexed, tallied, refused, shown_tally}
 use Rattle.words.proofs.Lexed.{tally-end, tally-fault, tally-token, whole}
 use Rattle.words.proofs.tallies.tally.Goals as goal
 
-pub returns-in-err-next : goal.returns-in-err-next
-returns-in-err-next c =
+pub returns-in_err-next : goal.returns-in_err-next
+returns-in_err-next c =
     let text = c.args.text.now in
     let at = c.loop-count.cursor.at in
-    let f = c.in-err-next.field-0.0 in
-    let (_, is, same) = err_from_is_err_and c.from-residual-in-err-next.result c.from-residual-in-err-next.ensures.1 in
-    let read = c.in-err-next.ensures.reads ∙ ap (λ t. scan t at) c.loop-count.invariant.0 in
+    let f = c.in_err-next.field-0.0 in
+    let (_, is, same) = err_from_is_err_and c.from_residual-in_err-next.result c.from_residual-in_err-next.ensures.1 in
+    let read = c.in_err-next.ensures.reads ∙ ap (λ t. scan t at) c.loop-count.invariant.0 in
     ap shown_tally is ∙ ap (λ g. refused (number_of g) (place_of g)) same ∙ sym (tally-fault c.loop-count.count text at f read)
-    ∙ c.loop-count.invariant.2 ∙ whole text c.in-ok-measured.ensures
+    ∙ c.loop-count.invariant.2 ∙ whole text c.in_ok-measured.ensures
 
 pub loop-count-preserved : goal.loop-count-preserved
 loop-count-preserved c =
@@ -24,7 +24,7 @@ loop-count-preserved c =
     let onto = c.next.new.self.at in
     let n = c.loop-count.count in
     let t = c.in-Some.field-0 in
-    let told = c.in-ok-next.ensures in
+    let told = c.in_ok-next.ensures in
     let same : c.loop-count.cursor.text.now ≡ text = c.loop-count.invariant.0 in
     let read : shown_token t ≡ scan text at = ap (λ o. shown (Ok o)) (sym c.in-Some.is) ∙ told.reads ∙ ap (λ x. scan x at) same in
     let stands : onto ≡ next_place text at = told.stands ∙ ap (λ x. next_place x at) same in
@@ -38,6 +38,6 @@ pub returns : goal.returns
 returns c =
     let text = c.args.text.now in
     let at = c.loop-count.cursor.at in
-    let told = c.in-ok-next.ensures in
-    let read : end ≡ scan text at = ap (λ o. shown (Ok o)) (sym c.in-default.is) ∙ told.reads ∙ ap (λ x. scan x at) c.loop-count.invariant.0 in
-    sym (tally-end c.loop-count.count text at read) ∙ c.loop-count.invariant.2 ∙ whole text c.in-ok-measured.ensures
+    let told = c.in_ok-next.ensures in
+    let read : end ≡ scan text at = ap (λ o. shown (Ok o)) (sym c.in_default.is) ∙ told.reads ∙ ap (λ x. scan x at) c.loop-count.invariant.0 in
+    sym (tally-end c.loop-count.count text at read) ∙ c.loop-count.invariant.2 ∙ whole text c.in_ok-measured.ensures

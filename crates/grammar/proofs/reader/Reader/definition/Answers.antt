@@ -4,16 +4,16 @@ use Rattle.grammar.specs.Readers.{state_of, Gave}
 use Rattle.grammar.proofs.Froms.{definition-none, definition-some}
 use Rattle.grammar.proofs.reader.Reader.definition.Goals as goal
 
-pub returns-in-default : goal.returns-in-default
-returns-in-default c =
-    let e = definition-none (state_of c.args.self.now) c.args.first 49 c.in-default.ensures in
-    record { kept = record { same = refl; long = refl; behind = refl }; gives = rw (e, c.place-of-at.ensures) refl }
+pub returns-in_default : goal.returns-in_default
+returns-in_default c =
+    let e = definition-none (state_of c.args.self.now) c.args.first 49 c.in_default.ensures in
+    record { kept = record { same = refl; long = refl; behind = refl }; gives = rw (e, c.place_of-at.ensures) refl }
 
 pub returns : goal.returns
 returns c =
     let v = state_of c.args.self.now in
     let b = c.in-Some.start in
-    let d = c.definition-form.ensures in
+    let d = c.definition_form.ensures in
     let e = definition-some v c.args.first 49 b c.in-Some.ensures (λ z. omega arith) c.requires
-    ∙ ap (λ z. definition_m z 48 b v) (sym c.place-of-at.ensures) in
-    record { kept = d.kept; gives = subst (λ o. Gave o c.definition-form.result c.definition-form.new.self) (sym e) d.gives }
+    ∙ ap (λ z. definition_m z 48 b v) (sym c.place_of-at.ensures) in
+    record { kept = d.kept; gives = subst (λ o. Gave o c.definition_form.result c.definition_form.new.self) (sym e) d.gives }

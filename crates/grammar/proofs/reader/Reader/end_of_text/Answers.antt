@@ -4,21 +4,21 @@ use Rattle.grammar.specs.Readers.{state_of}
 use Rattle.grammar.proofs.Closing.{end-fault, end-bad, end-good}
 use Rattle.grammar.proofs.reader.Reader.end_of_text.Goals as goal
 
-pub returns-in-err-next : goal.returns-in-err-next
-returns-in-err-next c =
-    let p = c.in-err-next.ensures in
-    let r = err_from_is_err_and c.from-residual.result c.from-residual.ensures.1 in
+pub returns-in_err-next : goal.returns-in_err-next
+returns-in_err-next c =
+    let p = c.in_err-next.ensures in
+    let r = err_from_is_err_and c.from_residual.result c.from_residual.ensures.1 in
     let e = end-fault (state_of c.args.self.now) _ _ p.reads.0 in
     record { kept = p.kept; gives = rw (e, r.1, r.2) (ap Some p.reads.1) }
 
 pub returns-in-End : goal.returns-in-End
 returns-in-End c =
-    let p = c.in-ok-next.ensures in
-    let e = end-good (state_of c.args.self.now) c.in-ok-next.next _ _ p.reads.0 c.in-End.is p.reads.3 in
+    let p = c.in_ok-next.ensures in
+    let e = end-good (state_of c.args.self.now) c.in_ok-next.next _ _ p.reads.0 c.in-End.is p.reads.3 in
     record { kept = p.kept; gives = rw e (record { result = refl; state = p.reads.2 }) }
 
-pub returns-in-default : goal.returns-in-default
-returns-in-default c =
-    let p = c.in-ok-next.ensures in
-    let e = end-bad (state_of c.args.self.now) c.in-ok-next.next _ p.reads.0 c.in-default.not-End in
-    record { kept = p.kept; gives = rw (e, c.place-of.ensures) refl }
+pub returns-in_default : goal.returns-in_default
+returns-in_default c =
+    let p = c.in_ok-next.ensures in
+    let e = end-bad (state_of c.args.self.now) c.in_ok-next.next _ p.reads.0 c.in_default.not-End in
+    record { kept = p.kept; gives = rw (e, c.place_of.ensures) refl }

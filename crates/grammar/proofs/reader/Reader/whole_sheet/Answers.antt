@@ -8,30 +8,30 @@ use Rattle.grammar.proofs.reader.Reader.whole_sheet.Goals as goal
 pub loop-first-init : goal.loop-first-init
 loop-first-init c = going-first c.args.self.now
 
-pub returns-in-err-first : goal.returns-in-err-first
-returns-in-err-first c =
+pub returns-in_err-first : goal.returns-in_err-first
+returns-in_err-first c =
     let s = c.args.self.now in
     let t = c.loop-first.self in
     let t1 = c.next.new.self in
     let g = c.loop-first.invariant in
-    let p = c.in-err-first.ensures in
-    let r = err_from_is_err_and c.from-residual.result c.from-residual.ensures.1 in
+    let p = c.in_err-first.ensures in
+    let r = err_from_is_err_and c.from_residual.result c.from_residual.ensures.1 in
     record {
       kept = kept_then s t t1 g.kept p.kept;
       gives = rw (r.1, r.2) (turn-fault s t t1 c.loop-first.modules g
-          c.in-err-first.field-0.0 p.reads);
+          c.in_err-first.field-0.0 p.reads);
     }
 
-pub returns-then-not-is-keyword : goal.returns-then-not-is-keyword
-returns-then-not-is-keyword c =
+pub returns-then-not-is_keyword : goal.returns-then-not-is_keyword
+returns-then-not-is_keyword c =
     let s = c.args.self.now in
     let t = c.loop-first.self in
     let t1 = c.next.new.self in
     let u = c.closing.new.self in
     let g = c.loop-first.invariant in
-    let p = c.in-ok-first.ensures in
+    let p = c.in_ok-first.ensures in
     let d = c.closing.ensures in
-    let e = turn-closing s t t1 c.loop-first.modules g c.in-ok-first.first p.reads c.if-not-is-keyword.ensures in
+    let e = turn-closing s t t1 c.loop-first.modules g c.in_ok-first.first p.reads c.if-not-is_keyword.ensures in
     record {
       kept = kept_then s t u g.kept (kept_then t t1 u p.kept d.kept);
       gives = subst (λ o. Gave o c.closing.result u)
@@ -44,25 +44,25 @@ returns-then-modules-eq32 c =
     let t = c.loop-first.self in
     let t1 = c.next.new.self in
     let g = c.loop-first.invariant in
-    let p = c.in-ok-first.ensures in
-    let e = turn_many s t t1 c.loop-first.modules g c.in-ok-first.first p.reads c.if-not-is-keyword.ensures
+    let p = c.in_ok-first.ensures in
+    let e = turn_many s t t1 c.loop-first.modules g c.in_ok-first.first p.reads c.if-not-is_keyword.ensures
     c.if-modules-eq32.true in
-    record { kept = kept_then s t t1 g.kept p.kept; gives = rw (e, c.place-of-at.ensures) refl }
+    record { kept = kept_then s t t1 g.kept p.kept; gives = rw (e, c.place_of-at.ensures) refl }
 
-pub returns-in-err-module : goal.returns-in-err-module
-returns-in-err-module c =
+pub returns-in_err-module : goal.returns-in_err-module
+returns-in_err-module c =
     let s = c.args.self.now in
     let t = c.loop-first.self in
     let t1 = c.next.new.self in
     let u = c.«module».new.self in
     let g = c.loop-first.invariant in
-    let p = c.in-ok-first.ensures in
-    let d = c.in-err-module.ensures in
-    let r = err_from_is_err_and c.from-residual-in-err-module.result c.from-residual-in-err-module.ensures.1 in
+    let p = c.in_ok-first.ensures in
+    let d = c.in_err-module.ensures in
+    let r = err_from_is_err_and c.from_residual-in_err-module.result c.from_residual-in_err-module.ensures.1 in
     record {
       kept = kept_then s t u g.kept (kept_then t t1 u p.kept d.kept);
-      gives = rw (r.1, r.2) (turn-refused s t t1 c.loop-first.modules g c.in-ok-first.first p.reads
-          c.if-not-is-keyword.ensures c.place-of-at.result c.in-err-module.field-0.0 u c.place-of-at.ensures
+      gives = rw (r.1, r.2) (turn-refused s t t1 c.loop-first.modules g c.in_ok-first.first p.reads
+          c.if-not-is_keyword.ensures c.place_of-at.result c.in_err-module.field-0.0 u c.place_of-at.ensures
           c.if-modules-eq32.false d.gives);
     }
 
@@ -71,9 +71,9 @@ loop-first-smaller c = omega (arith, c.loop-first.invariant.few, c.if-modules-eq
 
 pub loop-first-preserved : goal.loop-first-preserved
 loop-first-preserved c =
-    let p = c.in-ok-first.ensures in
-    let d = c.in-ok-module.ensures in
+    let p = c.in_ok-first.ensures in
+    let d = c.in_ok-module.ensures in
     turn-ok c.args.self.now c.loop-first.self c.next.new.self c.loop-first.modules c.loop-first.invariant
-    c.in-ok-first.first p.reads c.if-not-is-keyword.ensures c.place-of-at.result
-    c.in-ok-module.field-0 c.«module».new.self c.place-of-at.ensures c.if-modules-eq32.false p.kept
+    c.in_ok-first.first p.reads c.if-not-is_keyword.ensures c.place_of-at.result
+    c.in_ok-module.field-0 c.«module».new.self c.place_of-at.ensures c.if-modules-eq32.false p.kept
     d.kept d.gives

@@ -1,5 +1,5 @@
 use Rattle.std.proofs.Common.{◌+◌, ◌*◌}
-use Rattle.typing.proofs.tables.Tables.+apply_binary_body_conditional_is_zero_let_in_letrec_procedure_type_of.Given as goal
+use Rattle.typing.proofs.tables.Tables.+expressions.Given as goal
 
 abbrev pub decreases-apply : goal.decreases-apply
 decreases-apply l = 3 * l.levels + 1

@@ -1,5 +1,5 @@
 use Rattle.std.proofs.Common.{◌+◌, ◌*◌}
-use Rattle.grammar.proofs.reader.Reader.+application_binary_bound_conditional_expression_expression_form_expression_from_is_zero_let_in_letrec_pair_procedure.Given as goal
+use Rattle.grammar.proofs.reader.Reader.+expressions.Given as goal
 
 abbrev pub decreases-application : goal.decreases-application
 decreases-application l = 6 * l.levels + 4
@@ -16,17 +16,17 @@ decreases-conditional l = 6 * l.levels + 4
 abbrev pub decreases-expression : goal.decreases-expression
 decreases-expression l = 6 * l.levels + 1
 
-abbrev pub decreases-expression-form : goal.decreases-expression-form
-decreases-expression-form l = 6 * l.levels + 5
+abbrev pub decreases-expression_form : goal.decreases-expression_form
+decreases-expression_form l = 6 * l.levels + 5
 
-abbrev pub decreases-expression-from : goal.decreases-expression-from
-decreases-expression-from l = 6 * l.levels + 0
+abbrev pub decreases-expression_from : goal.decreases-expression_from
+decreases-expression_from l = 6 * l.levels + 0
 
-abbrev pub decreases-is-zero : goal.decreases-is-zero
-decreases-is-zero l = 6 * l.levels + 4
+abbrev pub decreases-is_zero : goal.decreases-is_zero
+decreases-is_zero l = 6 * l.levels + 4
 
-abbrev pub decreases-let-in : goal.decreases-let-in
-decreases-let-in l = 6 * l.levels + 4
+abbrev pub decreases-let_in : goal.decreases-let_in
+decreases-let_in l = 6 * l.levels + 4
 
 abbrev pub decreases-letrec : goal.decreases-letrec
 decreases-letrec l = 6 * l.levels + 4
