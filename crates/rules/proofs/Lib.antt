@@ -7,5 +7,5 @@ pub mod Whole
 pub mod Passing
 pub mod Once
 pub mod Exchange
-pub mod Hidden
+pub mod HiddenTypes
 pub mod Shown

@@ -2,7 +2,7 @@
 use Rattle.std.specs.Prelude.{◌≡◌, ℕ, zero, suc, List, [], ◌∷◌, ◌++◌, codes}
 use Rattle.language.specs.Names.{bind}
 use Rattle.language.specs.Pantry.{Stock, figure_kind, figure_by_item, flag_by_item}
-use Rattle.language.specs.Typing.{ExpandedType, int, bool, hidden, ◌⇒◌}
+use Rattle.language.specs.Typing.{ExpandedType, int, hidden, ◌⇒◌}
 use Rattle.grammar.specs.Reading as reading
 use Rattle.grammar.specs.Syntax.{Sheet}
 use Rattle.rules.specs.Faults.{number_of, place_of}
