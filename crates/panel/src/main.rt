@@ -12,7 +12,8 @@ fn run(rt: &HostRuntime) -> anyhow::Result<()> {
     let mut text = Vec::new(heap);
     rt.stdin().read_to_end(&mut text)?;
     let mut tree = vec![in heap; Node::Blank; PLACES]?;
-    rt.println(panels::line(heap, &text, &mut tree)?)?;
+    let line = panels::line(heap, &text, &mut tree)?;
+    println!(rt; "{line}")?;
     Ok(())
 }
 
