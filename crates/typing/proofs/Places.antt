@@ -1,12 +1,12 @@
 -- The search for a type, an interface or an entry in a list, one place on.
-use Rattle.std.proofs.Common.{◌≡◌, ℕ, zero, suc, ◌+◌, ◌<◌, ◌≤◌, true, false, List, [], ◌∷◌, length, get_or, drop, Some, None, sym, refl, ap, ◌∙◌, add-one, arith, drop-cons}
+use Rattle.std.proofs.Common.{◌≡◌, ℕ, ◌+◌, ◌<◌, ◌≤◌, true, false, List, length, get_or, drop, Some, None, add-one, drop-cons}
 use Rattle.std.proofs.lemmas.List.{drop_all}
 use Rattle.words.specs.Names.{Name, same_name}
 use Rattle.language.specs.Bindings.{spelled_in}
 use Rattle.typing.specs.declared.types.TypeEntry.{TypeEntry}
 use Rattle.typing.specs.declared.types.Interface.{Interface}
 use Rattle.typing.specs.declared.types.Known.{Known}
-use Rattle.typing.specs.Tables.{alike, here, type_place, interface_n, entry_n}
+use Rattle.typing.specs.Tables.{alike, type_place, interface_n, entry_n}
 
 module _ (text : List ℕ) (x : TypeEntry) (ts : List TypeEntry) (i : ℕ) (d : TypeEntry) where
   pub place_here : i < length ts → alike text x (get_or ts i d) ≡ true → type_place text x i (drop i ts) ≡ Some i

@@ -1,23 +1,23 @@
 -- Numbers of types and the types that they tell.
-use Rattle.std.proofs.Common.{◌≡◌, ℕ, zero, suc, ◌+◌, ◌<◌, ◌≤◌, min, max, Bool, true, false, cond, ◌&&◌, eqb, ltb, leb, ◌⊎◌, List, [], ◌∷◌, ◌++◌, length, take, drop, set, Some, None, Option, sym, refl, ap, ◌∙◌, subst, inl, inr, ⊎_elim, zero-add, arith, length-append, length-set}
+use Rattle.std.proofs.Common.{◌≡◌, ℕ, zero, suc, ◌+◌, ◌<◌, ◌≤◌, min, max, true, false, cond, eqb, ltb, leb, ◌⊎◌, List, [], ◌∷◌, ◌++◌, length, take, drop, set, Some, None, Option, sym, refl, ap, ◌∙◌, subst, inl, inr, ⊎_elim, zero-add, arith, length-append, length-set}
 use Rattle.std.specs.List.{slice_get}
 use Rattle.std.proofs.lemmas.List.{take_more_set}
 use Rattle.std.proofs.lemmas.Bool.{true≢false, eq-eqb, ne_eqb, cases_eq, cases_Bool, cases_lt, ltb-true, lt-ltb, le-ltb, le-leb, lt-leb}
 use Rattle.std.proofs.iter.runs.Lists.{slice_get_within, nth_left, nth_seam}
 use Rattle.language.specs.declared.spans.Span.{Span}
 use Rattle.language.specs.Bindings.{spelled_in}
-use Rattle.language.specs.Typing.{ExpandedType, int, bool, hidden, ◌⇒◌}
+use Rattle.language.specs.Typing.{ExpandedType, hidden, ◌⇒◌}
 use Rattle.language.specs.TypeOf.{same_type}
 use Rattle.language.proofs.Agrees.{same-type-refl, same-type-is}
 use Rattle.rules.specs.declared.faults.CheckFault.TheVariants.{TooDeep, TypesFull}
-use Rattle.rules.specs.Forms.{Out, bad, good, after, want}
+use Rattle.rules.specs.Forms.{bad, good}
 use Rattle.rules.specs.Rules.{depth, depth_limit, member, entering}
 use Rattle.rules.specs.Rules as rules
 use Rattle.typing.specs.declared.types.TypeEntry.{TypeEntry}
 use Rattle.typing.specs.declared.types.TypeEntry.TheVariants as entry
-use Rattle.typing.specs.Tables.{State, or, entry_at, depth_of, sides_of, is_arrow, is_hidden, alike, here, type_place, found_n, adding, deeper, arrow_n, hide_n}
+use Rattle.typing.specs.Tables.{State, or, entry_at, depth_of, sides_of, is_arrow, is_hidden, alike, type_place, found_n, adding, deeper, arrow_n, hide_n}
 use Rattle.typing.specs.Stands.{Row, row-int, row-bool, row-hidden, row-arrow, Rows, rows_none, rows_more, Distinct, Stands}
-use Rattle.typing.proofs.Alike.{More, Tells, Next, Alike, alike-bad, alike-good, next-refl, want-alike, Both, neither, each}
+use Rattle.typing.proofs.Alike.{More, Tells, Alike, alike-bad, alike-good, next-refl, want-alike, Both, neither, each}
 
 -- the two tests of depth
 depth-test : (n : ℕ) → ltb n 32 ≡ leb (n + 1) 32

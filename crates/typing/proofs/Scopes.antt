@@ -10,14 +10,13 @@ use Rattle.language.specs.declared.spans.Span.{Span}
 use Rattle.language.specs.declared.bindings.Binding.{Binding}
 use Rattle.language.specs.Names as names
 use Rattle.language.specs.Names.{bind, lookup, pantry_name}
-use Rattle.language.specs.Scopes.{Linked, linked, follow, chain, nearest_in}
-use Rattle.language.specs.Bindings.{part_of, spelled_in, binding_at, bindings_in, option_of}
+use Rattle.language.specs.Scopes.{chain, nearest_in}
+use Rattle.language.specs.Bindings.{part_of, spelled_in, bindings_in, option_of}
 use Rattle.language.specs.Typing as typing
 use Rattle.language.specs.Typing.{ExpandedType, Context, Interfaces, type_declared, value_declared, taken}
 use Rattle.language.specs.Modules.{Made, made_type, made_value}
 use Rattle.grammar.specs.Table.{name_in}
 use Rattle.rules.specs.declared.faults.CheckFault.TheVariants.{ScopeFull}
-use Rattle.rules.specs.Forms.{Out, good, after, want}
 use Rattle.rules.specs.Rules as rules
 use Rattle.rules.specs.Rules.{types_of, values_of, seen_in, taking}
 use Rattle.rules.specs.Checking.{interface_of}
@@ -32,7 +31,7 @@ use Rattle.typing.specs.Slots.{held_slot}
 use Rattle.typing.specs.Tables as table
 use Rattle.typing.specs.Tables.{State, binding, bound, enter_n, enter_type_n, nearest_n, or_else, interface_n, in_interface, declared_n, entry_n, taken_n}
 use Rattle.typing.specs.Stands.{Stands, Holding, no_name, type-name, value-name, Declares, declares, AllDeclare, none-declares, one-declares, Stocks, stocks-none, stocks-one, Scoped}
-use Rattle.typing.proofs.Alike.{More, Tie, Next, Alike, alike-good, want-within, Both, neither, each}
+use Rattle.typing.proofs.Alike.{More, Next, Alike, alike-good, want-within, Both, neither, each}
 
 -- a number and the type that it tells
 abbrev pub Told : List ExpandedType → ℕ → ExpandedType → Type 0

@@ -1,5 +1,5 @@
 -- The check of a place of the tree goes as the check, by the rules, of what stands there.
-use Rattle.std.proofs.Common.{◌≡◌, ℕ, zero, suc, ◌≤◌, eqb, List, Some, None, Option, sym, refl, ap, ◌∙◌}
+use Rattle.std.proofs.Common.{◌≡◌, ℕ, zero, suc, eqb, List, Some, None, Option, refl, ap}
 use Rattle.std.specs.List.{slice_get}
 use Rattle.language.specs.declared.spans.Span.{Span}
 use Rattle.language.specs.Typing.{ExpandedType, int, bool, result_of}
@@ -24,9 +24,9 @@ use Rattle.typing.specs.declared.types.Scope.{Scope}
 use Rattle.typing.specs.declared.types.Given.{Given}
 use Rattle.typing.specs.Tables.{State, Check, tables, place_of, place_in, placed, form_t, on_type, expand_n, form_e, on_exp, type_n, result_n}
 use Rattle.typing.specs.Stands.{Stands, Scoped}
-use Rattle.typing.proofs.Alike.{Tells, Nothing, Next, Alike, alike-good, next-refl, alike-less, then-alike, want-alike, want-last, known_alike}
+use Rattle.typing.proofs.Alike.{Tells, Nothing, Alike, alike-good, next-refl, alike-less, then-alike, want-alike, want-last, known_alike}
 use Rattle.typing.proofs.Rows.{same-tells, entry-sides, arrow-alike}
-use Rattle.typing.proofs.Scopes.{scoped-next, type-named, value-named, type-taken, value_taken, Inner, enter-alike}
+use Rattle.typing.proofs.Scopes.{scoped-next, type-named, value-named, type-taken, value_taken, enter-alike}
 
 -- what holds of what is there
 abbrev pub On : {A : Type 0} → Option A → (A → Type 0) → Type 0

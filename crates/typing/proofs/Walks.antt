@@ -1,5 +1,5 @@
 -- A part of the tree: it stands within the table, at a node of its kind, and what it means goes by that node.
-use Rattle.std.proofs.Common.{◌≡◌, ℕ, zero, suc, ◌-◌, ◌<◌, true, List, length, get_or, is_some, Some, Option, sym, refl, ap, ◌∙◌, subst, ⊎_elim, arith}
+use Rattle.std.proofs.Common.{◌≡◌, ℕ, zero, suc, ◌-◌, ◌<◌, true, List, length, get_or, is_some, Some, Option, refl, subst, ⊎_elim, arith}
 use Rattle.std.proofs.lemmas.Option.{slice_get_past, slice_get-get_or}
 use Rattle.std.proofs.lemmas.Bool.{cases_lt, false≢true}
 use Rattle.grammar.specs.declared.tree.TypeNode.{TypeNode}

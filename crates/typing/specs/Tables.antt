@@ -1,5 +1,5 @@
 -- The check as the tables keep it: a type is told by its number, a name by its span, what is in scope by links into the scope table.
-use Rattle.std.specs.Prelude.{◌≡◌, ℕ, zero, suc, ◌+◌, min, max, Bool, true, false, cond, ◌&&◌, List, [], ◌∷◌, length, take, is_some, Some, None, Ok, Err, Option, Result, ◌==◌, nat_lt, slice_set}
+use Rattle.std.specs.Prelude.{◌≡◌, ℕ, zero, suc, ◌+◌, min, max, Bool, true, false, cond, ◌&&◌, List, [], ◌∷◌, length, take, is_some, Some, None, Ok, Err, Option, Result, ◌==◌, nat_eq, nat_lt, slice_set}
 use Rattle.std.specs.List.{slice_get}
 use Rattle.std.specs.Str.{bytes_eq}
 use Rattle.language.specs.declared.spans.Span.{Span}
@@ -19,7 +19,7 @@ use Rattle.grammar.specs.declared.tree.Node.TheVariants as node
 use Rattle.grammar.specs.Table.{type_at, exp_at}
 use Rattle.rules.specs.declared.faults.CheckFault.{CheckFault}
 use Rattle.rules.specs.declared.faults.CheckFault.TheVariants.{TooDeep, TypesFull, ScopeFull, Unwanted}
-use Rattle.rules.specs.Forms.{Out, bad, good, after, want, give, ◌>>=◌, ◌>>◌, Keeping, named_t, qualified_t, arrow_t, variable_f, qualified_f, is_zero_f, binary_f, apply_f, proc_f, let_f, conditional_f, body_f, letrec_f}
+use Rattle.rules.specs.Forms.{Out, bad, good, want, give, ◌>>=◌, ◌>>◌, Keeping, named_t, qualified_t, arrow_t, variable_f, qualified_f, is_zero_f, binary_f, apply_f, proc_f, let_f, conditional_f, body_f, letrec_f}
 use Rattle.typing.specs.declared.types.TypeEntry.{TypeEntry}
 use Rattle.typing.specs.declared.types.TypeEntry.TheVariants as entry
 use Rattle.typing.specs.declared.types.Slot.{Slot}
@@ -192,7 +192,7 @@ tables w = record {
   State = State;
   int = 0;
   bool = 1;
-  same = eqb;
+  same = nat_eq;
   sides = λ k s. sides_of (entry_at s.types k);
   arrow = arrow_n w.text.now;
   type_named = λ g x s. nearest_n w.text.now g.types x s;

@@ -13,11 +13,11 @@ decreases-body l = 3 * l.levels + 1
 abbrev pub decreases-conditional : goal.decreases-conditional
 decreases-conditional l = 3 * l.levels + 1
 
-abbrev pub decreases-is-zero : goal.decreases-is-zero
-decreases-is-zero l = 3 * l.levels + 1
+abbrev pub decreases-is_zero : goal.decreases-is_zero
+decreases-is_zero l = 3 * l.levels + 1
 
-abbrev pub decreases-let-in : goal.decreases-let-in
-decreases-let-in l = 3 * l.levels + 1
+abbrev pub decreases-let_in : goal.decreases-let_in
+decreases-let_in l = 3 * l.levels + 1
 
 abbrev pub decreases-letrec : goal.decreases-letrec
 decreases-letrec l = 3 * l.levels + 2
@@ -25,5 +25,5 @@ decreases-letrec l = 3 * l.levels + 2
 abbrev pub decreases-procedure : goal.decreases-procedure
 decreases-procedure l = 3 * l.levels + 1
 
-abbrev pub decreases-type-of : goal.decreases-type-of
-decreases-type-of l = 3 * l.levels
+abbrev pub decreases-type_of : goal.decreases-type_of
+decreases-type_of l = 3 * l.levels

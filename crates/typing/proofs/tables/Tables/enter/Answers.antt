@@ -2,9 +2,9 @@ use Rattle.std.proofs.Common.{rules}
 use Rattle.typing.specs.Tables.{enter_n}
 use Rattle.typing.proofs.tables.Tables.enter.Goals as goal
 
-pub returns-in-err-link : goal.returns-in-err-link
+pub returns-in_err-link : goal.returns-in_err-link
 unfolding enter_n
-returns-in-err-link c = search rules
+returns-in_err-link c = search rules
 
 pub returns : goal.returns
 unfolding enter_n

@@ -9,7 +9,7 @@ pub bounds-self-i : goal.bounds-self-i
 bounds-self-i c = exp-inside _ _ _ _ c.requires
 
 pub unreachable-requires : goal.unreachable-requires
-unreachable-requires c = is-expression _ _ _ _ _ c.requires c.in-default.not-Expression
+unreachable-requires c = is-expression _ _ _ _ _ c.requires c.in_default.not-Expression
 
 pub returns : goal.returns
 returns c =

@@ -1,4 +1,4 @@
-use Rattle.std.proofs.Common.{Some, Option, sym, ap, ◌∙◌}
+use Rattle.std.proofs.Common.{Some, sym, ap, ◌∙◌}
 use Rattle.std.proofs.lemmas.Option.{slice_get-get_or, slice_get_past}
 use Rattle.grammar.specs.declared.tree.Node.{Node}
 use Rattle.typing.specs.Tables.{place_in, placed}
@@ -19,7 +19,7 @@ returns-in-Type c = sym (ap place_in (slice_get-get_or _ _ _ c.if-k-self.false) 
 pub returns-in-Expression : goal.returns-in-Expression
 unfolding placed
 returns-in-Expression c =
-    c.place-of.ensures ∙ sym (ap place_in (slice_get-get_or _ _ _ c.if-k-self.false) ∙ ap (λ (n : Node). place_in (Some n)) c.in-Expression.is)
+    c.place_of.ensures ∙ sym (ap place_in (slice_get-get_or _ _ _ c.if-k-self.false) ∙ ap (λ (n : Node). place_in (Some n)) c.in-Expression.is)
 
 pub returns-in-Item : goal.returns-in-Item
 unfolding placed

@@ -9,7 +9,7 @@ pub bounds-self-i : goal.bounds-self-i
 bounds-self-i c = type-inside _ _ _ _ c.requires
 
 pub unreachable-requires : goal.unreachable-requires
-unreachable-requires c = is-type _ _ _ _ _ c.requires c.in-default.not-Type
+unreachable-requires c = is-type _ _ _ _ _ c.requires c.in_default.not-Type
 
 pub returns : goal.returns
 returns c =
