@@ -1,5 +1,5 @@
 -- From one module to the next.
-use Rattle.std.proofs.Common.{◌≡◌, ℕ, zero, suc, ◌+◌, ◌-◌, ◌<◌, ◌≤◌, min, List, [], ◌∷◌, ◌++◌, length, get_or, take, drop, set, Some, None, Ok, Err, Option, Result, sym, refl, ap, ◌∙◌, subst, arith, length-drop, length-take, get_or-drop, get_or-take}
+use Rattle.std.proofs.Common.{◌≡◌, ℕ, suc, ◌+◌, ◌-◌, ◌<◌, ◌≤◌, min, List, [], ◌∷◌, ◌++◌, length, take, drop, set, Some, None, Ok, Err, Option, Result, sym, refl, ap, ◌∙◌, subst, arith, length-drop, length-take, get_or-drop, get_or-take}
 use Rattle.std.proofs.lemmas.List.{take_more_set}
 use Rattle.language.specs.declared.spans.Span.{Span}
 use Rattle.language.specs.Typing.{ExpandedType}
@@ -17,14 +17,14 @@ use Rattle.typing.specs.declared.types.Interface.{Interface}
 use Rattle.typing.specs.declared.types.Known.{Known}
 use Rattle.typing.specs.declared.types.Given.{Given}
 use Rattle.typing.specs.Tables.{State, type_n}
-use Rattle.typing.specs.Stands.{Stands, Scoped, no_name, AllDeclare, Stocks}
+use Rattle.typing.specs.Stands.{Stands, Scoped, no_name}
 use Rattle.typing.proofs.Simulation.{On, Goes, ExpHere, exp-here}
-use Rattle.typing.proofs.Alike.{Tells, Next, Alike, alike-bad, alike-good}
+use Rattle.typing.proofs.Alike.{Tells, Alike, alike-bad, alike-good}
 use Rattle.checker.specs.Items.{empty_at, module_n, NodeIn, AllIn, NodeHolds}
 use Rattle.checker.specs.Modules.{interface_at, Left, Declared, more-declared}
 use Rattle.checker.specs.Sheets.{state_in, Ran, Between, AfterModule, AfterModules, ClosedBy, AfterClosing, check_nodes}
 use Rattle.checker.proofs.Declares.{declared-kept}
-use Rattle.checker.proofs.ItemsGo.{Each, all-each}
+use Rattle.checker.proofs.ItemsGo.{all-each}
 use Rattle.checker.proofs.MatchingGoes.{module-goes}
 
 -- a part of the tree holds where the tree does

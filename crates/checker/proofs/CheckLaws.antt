@@ -1,5 +1,5 @@
 -- What the check's answer says by the rules of types.
-use Rattle.std.proofs.Common.{◌≡◌, ℕ, ◌≤◌, min, true, List, length, Ok, Err, Result, sym, refl, ap, ◌∙◌, subst, arith}
+use Rattle.std.proofs.Common.{◌≡◌, ℕ, ◌≤◌, true, List, length, Ok, Err, Result, sym, refl, ap, ◌∙◌, subst, arith}
 use Rattle.language.specs.Pantry.{Stock}
 use Rattle.language.specs.Typing.{ExpandedType}
 use Rattle.language.proofs.Checks.{passes-computed}
@@ -9,8 +9,8 @@ use Rattle.rules.specs.Forms.{Out, bad, good}
 use Rattle.rules.specs.Rules as rules
 use Rattle.rules.specs.Rules.{depth, member}
 use Rattle.rules.specs.Checking.{checking}
-use Rattle.rules.specs.Needs.{formed, distinct_types, Within}
-use Rattle.rules.specs.Laws.{Typed, Passed, checking_modules}
+use Rattle.rules.specs.Needs.{formed, Within}
+use Rattle.rules.specs.Laws.{Typed}
 use Rattle.rules.proofs.Passing.{member-shallow, passing-exact, passing-sound, refusing-sound}
 use Rattle.rules.proofs.Once.{distinct-types}
 use Rattle.rules.proofs.Exchange.{exchanging-typed}
@@ -20,7 +20,7 @@ use Rattle.typing.specs.Told.{type_told}
 use Rattle.typing.proofs.Rows.{member-at}
 use Rattle.typing.proofs.TableTold.{table-told}
 use Rattle.checker.specs.Sheets.{places}
-use Rattle.checker.specs.Passes.{sheet_in, passes_with}
+use Rattle.checker.specs.Passes.{sheet_in}
 use Rattle.checker.specs.Runs.{Passes, Ends}
 use Rattle.checker.specs.Laws.{Answered, Promised, Judged, Exchanged}
 

@@ -3,8 +3,8 @@ use Rattle.std.proofs.Common.{◌≡◌, ℕ, zero, suc, ◌+◌, ◌<◌, ◌�
 use mathlib.Core.Option.{none, some}
 use lib.ListN.{get_elem?}
 use Rattle.std.proofs.lemmas.List.{length-map, take_more_set, take_all, drop-set-lt}
-use Rattle.language.specs.Names.{Binding, bind}
-use Rattle.language.specs.Pantry.{Kind, Pantry, Stock, stock_of}
+use Rattle.language.specs.Names.{bind}
+use Rattle.language.specs.Pantry.{Pantry, Stock, stock_of}
 use Rattle.pantry.specs.declared.entries.Entry.{Entry}
 use Rattle.pantry.specs.Meaning.{kind_of}
 use Rattle.checker.specs.Stocks.{stock_in}

@@ -1,5 +1,5 @@
 -- The search for a definition, one place on.
-use Rattle.std.proofs.Common.{◌≡◌, ℕ, ◌+◌, ◌<◌, ◌≤◌, min, Bool, true, false, List, [], ◌∷◌, length, get_or, take, drop, Some, None, sym, refl, ap, ◌∙◌, add-one, arith, length-take, drop-cons, get_or-take}
+use Rattle.std.proofs.Common.{◌≡◌, ℕ, ◌+◌, ◌<◌, ◌≤◌, min, Bool, true, false, List, ◌∷◌, length, get_or, take, drop, Some, None, add-one, arith, length-take, drop-cons, get_or-take}
 use Rattle.std.proofs.lemmas.List.{drop_all}
 use Rattle.typing.specs.declared.types.Slot.{Slot}
 use Rattle.checker.specs.Items.{defines, number_at, definition}

@@ -1,5 +1,5 @@
 -- The answer of the whole check, and both tables then.
-use Rattle.std.proofs.Common.{◌≡◌, ℕ, zero, suc, ◌+◌, ◌-◌, ◌<◌, ◌≤◌, min, List, [], ◌∷◌, ◌++◌, length, take, drop, replicate, Some, Ok, Err, Result, sym, refl, ap, ◌∙◌, subst, arith, length-take}
+use Rattle.std.proofs.Common.{◌≡◌, ℕ, zero, suc, ◌-◌, ◌<◌, ◌≤◌, min, List, [], ◌∷◌, ◌++◌, length, take, drop, replicate, Some, Ok, Err, Result, sym, refl, ap, ◌∙◌, subst, arith, length-take}
 use lib.ListN.{length-replicate}
 use Rattle.std.proofs.lemmas.List.{drop_all, take_at, drop-replicate}
 use Rattle.std.specs.List.{slice_get}

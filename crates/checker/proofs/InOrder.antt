@@ -1,12 +1,12 @@
 -- Items in order, one place on.
-use Rattle.std.proofs.Common.{◌≡◌, ℕ, zero, suc, ◌+◌, ◌<◌, ◌≤◌, List, [], ◌∷◌, length, get_or, drop, Ok, Err, sym, refl, ap, ◌∙◌, add-one, arith, drop-cons}
+use Rattle.std.proofs.Common.{◌≡◌, ℕ, ◌+◌, ◌<◌, ◌≤◌, List, length, get_or, drop, Ok, Err, ◌∙◌, add-one, arith, drop-cons}
 use Rattle.std.proofs.lemmas.List.{drop_all}
 use Rattle.grammar.specs.declared.tree.Node.{Node}
 use Rattle.grammar.specs.declared.tree.Item.{Item}
 use Rattle.rules.specs.declared.faults.CheckFault.{CheckFault}
 use Rattle.typing.specs.declared.tables.Tables.{Tables}
-use Rattle.rules.specs.Forms.{Out, bad, good, after}
-use Rattle.typing.specs.Tables.{State, state_of, Kept, Gave, Done}
+use Rattle.rules.specs.Forms.{Out, bad, good}
+use Rattle.typing.specs.Tables.{State, state_of, Kept, Gave}
 use Rattle.checker.specs.Items.{on_item, all_items}
 
 -- what a promise says at its answer

@@ -1,46 +1,33 @@
 -- Declarations, definitions, matching and modules on the tables go as the rules have it.
-use Rattle.std.proofs.Common.{◌≡◌, ℕ, zero, suc, ◌+◌, ◌<◌, ◌≤◌, Bool, true, false, cond, not, ◌&&◌, eqb, List, [], ◌∷◌, ◌++◌, length, get_or, take, drop, is_some, Some, None, Option, sym, refl, ap, ◌∙◌, subst, add-one, arith}
-use mathlib.Core.Option.{Option as Maybe, none, some}
-use lib.ListN.{get_elem?}
-use Rattle.std.specs.List.{slice_get}
+use Rattle.std.proofs.Common.{◌≡◌, ℕ, suc, ◌<◌, ◌≤◌, true, List, [], ◌∷◌, length, get_or, is_some, Some, None, Option, refl, arith}
 use Rattle.std.proofs.lemmas.Bool.{false≢true}
-use Rattle.words.specs.Names.{Name, same_name}
 use Rattle.language.specs.declared.spans.Span.{Span}
-use Rattle.language.specs.declared.bindings.Binding.{Binding}
-use Rattle.language.specs.Names.{bind, lookup, pantry_name}
-use Rattle.language.specs.Bindings.{part_of, spelled_in, option_of}
-use Rattle.language.specs.Typing as typing
-use Rattle.language.specs.Typing.{ExpandedType, int, bool, hidden, Interfaces}
-use Rattle.language.specs.TypeOf.{same_type}
-use Rattle.language.specs.Check.{is_none}
-use Rattle.language.specs.Modules.{Made, made_type, made_value}
+use Rattle.language.specs.Names.{lookup}
+use Rattle.language.specs.Bindings.{part_of, option_of}
+use Rattle.language.specs.Typing.{ExpandedType}
 use Rattle.grammar.specs.declared.tree.Item.{Item}
 use Rattle.grammar.specs.declared.tree.Item.TheVariants as item
 use Rattle.grammar.specs.declared.tree.Node.{Node}
 use Rattle.grammar.specs.declared.tree.Node.TheVariants as node
-use Rattle.grammar.specs.Syntax as placed
-use Rattle.grammar.specs.Syntax.{WrittenType, Exp, Declaration, Definition}
+use Rattle.grammar.specs.Syntax.{Exp, Declaration, Definition}
 use Rattle.grammar.specs.Table.{name_in, type_at, exp_at, Addition, nothing, declares, defines, ends, addition_by, addition_of, addition}
-use Rattle.rules.specs.declared.faults.CheckFault.TheVariants.{Repeated, Missing, Mismatch}
-use Rattle.rules.specs.Forms.{Out, good, after, want, give, ◌>>=◌, ◌>>◌}
-use Rattle.rules.specs.ItemForms.{neither, opaque_f, type_is_f, value_is_f, match_opaque_f, match_f}
+use Rattle.rules.specs.declared.faults.CheckFault.TheVariants.{Repeated}
+use Rattle.rules.specs.Forms.{Out, after, give}
+use Rattle.rules.specs.ItemForms.{neither, opaque_f, type_is_f, value_is_f}
 use Rattle.rules.specs.Rules as rules
 use Rattle.rules.specs.Rules.{types_of, values_of, item_rules, supplied_by, expanding}
-use Rattle.rules.specs.Checking.{outside, onto, interface_of, with_module, declare, declare_all, define, define_all, match, match_all, check_body, check_module}
+use Rattle.rules.specs.Checking.{declare, declare_all, define, define_all}
 use Rattle.typing.specs.declared.types.TypeEntry.{TypeEntry}
-use Rattle.typing.specs.declared.types.Slot.{Slot}
-use Rattle.typing.specs.declared.types.Slot.TheVariants as slot
 use Rattle.typing.specs.declared.types.Scope.{Scope}
-use Rattle.typing.specs.declared.types.Interface.{Interface}
 use Rattle.typing.specs.declared.types.Given.{Given}
-use Rattle.typing.specs.Tables.{State, Check, tables, nearest_n, interface_n, expand_n, type_n}
-use Rattle.typing.specs.Stands.{Stands, Holding, no_name, type-name, value-name, declares as declared, AllDeclare, none-declares, one-declares, Scoped}
-use Rattle.typing.proofs.Alike.{More, Tie, Tells, Nothing, Next, Alike, alike-good, next-refl, alike-less, then-alike, want-alike, known_alike, Both, neither as neither-there, each}
-use Rattle.typing.proofs.Rows.{same-tells, hide-alike}
-use Rattle.typing.proofs.Scopes.{Told, scoped-next, type-named, value-named, BothDeclare, neither-declares, both-declare, interface-both, all-kept, Inner, enter-alike, enter-type-alike}
+use Rattle.typing.specs.Tables.{State, Check, tables, expand_n, type_n}
+use Rattle.typing.specs.Stands.{Stands, Scoped}
+use Rattle.typing.proofs.Alike.{Tells, Alike, alike-good, next-refl, alike-less, then-alike, want-alike, Both, neither as neither-there, each}
+use Rattle.typing.proofs.Rows.{hide-alike}
+use Rattle.typing.proofs.Scopes.{scoped-next, type-named, value-named, Inner, enter-alike, enter-type-alike}
 use Rattle.typing.proofs.Simulation.{On, Goes, type-here, ExpHere, exp-here}
-use Rattle.checker.specs.Items.{defines as defines_n, number_at, or_else, definition, definition_n, item_tables, is_fresh, declare_item, define_item, match_item, on_item, all_items, empty_at, body_n, no_interface, is_new, module_n, NodeHolds}
-use Rattle.checker.specs.Modules.{with_declaration, declarations_of, with_definition, definitions_of, Ahead, no_more, type-ahead, value-ahead, interface_at, Left}
+use Rattle.checker.specs.Items.{item_tables, is_fresh, declare_item, define_item, on_item, all_items, NodeHolds}
+use Rattle.checker.specs.Modules.{with_declaration, declarations_of, with_definition, definitions_of}
 
 neither-both : {A B C D : Type 0} {R : A → B → Type 0} {Q : C → D → Type 0} {o : Option A} {p : Option B} {o' : Option C} {p' : Option D} → Both R o p → Both Q o' p' →
     neither o o' ≡ neither p p'

@@ -1,10 +1,10 @@
 -- The pantry's entries, one after the other.
-use Rattle.std.proofs.Common.{◌≡◌, ℕ, zero, suc, ◌+◌, ◌<◌, ◌≤◌, Bool, true, false, cond, ltb, leb, List, [], ◌∷◌, ◌++◌, length, get_or, take, drop, set, Some, Ok, Err, Result, sym, refl, ap, ◌∙◌, subst, add-one, arith, drop-cons}
+use Rattle.std.proofs.Common.{◌≡◌, ℕ, ◌+◌, ◌<◌, Bool, true, false, cond, ltb, leb, List, [], ◌∷◌, ◌++◌, length, get_or, take, drop, set, Some, Ok, Err, sym, refl, ap, ◌∙◌, subst, add-one, arith, drop-cons}
 use Rattle.std.specs.List.{slice_get}
 use Rattle.std.proofs.lemmas.List.{take_more_set, take_all, drop_all, take_more}
 use Rattle.words.specs.Names.{Name}
 use Rattle.language.specs.Names.{bind}
-use Rattle.language.specs.Typing.{ExpandedType, int, bool, ◌⇒◌, Context, kind_type, stock_types}
+use Rattle.language.specs.Typing.{ExpandedType, int, bool, Context, kind_type, stock_types}
 use Rattle.pantry.specs.declared.entries.Kind.{Kind}
 use Rattle.pantry.specs.declared.entries.Kind.TheVariants as kind
 use Rattle.pantry.specs.declared.entries.Entry.{Entry}
@@ -19,7 +19,7 @@ use Rattle.typing.specs.declared.types.Known.{Known}
 use Rattle.typing.specs.declared.tables.Tables.{Tables}
 use Rattle.typing.specs.Tables.{State, state_of, Gave}
 use Rattle.typing.specs.Stands.{Stands, Stocks, stocks-none, stocks-one}
-use Rattle.typing.proofs.Alike.{More, Tells, Next, Alike, alike-bad, alike-good}
+use Rattle.typing.proofs.Alike.{Tells, Alike, alike-bad, alike-good}
 use Rattle.typing.proofs.Rows.{member-at, there-alike, arrow-alike}
 use Rattle.typing.proofs.Scopes.{stocks-kept}
 use Rattle.checker.specs.Stocks.{stock_in}

@@ -1,45 +1,43 @@
 -- Matching and modules on the tables go as the rules have it.
-use Rattle.std.proofs.Common.{◌≡◌, ℕ, zero, suc, ◌+◌, ◌<◌, ◌≤◌, Bool, true, false, cond, not, ◌&&◌, eqb, List, [], ◌∷◌, ◌++◌, length, take, drop, is_some, Some, None, Option, sym, refl, ap, ◌∙◌, subst, add-one, arith}
-use mathlib.Core.Option.{Option as Maybe, none, some}
+use Rattle.std.proofs.Common.{◌≡◌, ℕ, zero, suc, ◌+◌, ◌<◌, ◌≤◌, Bool, true, false, cond, not, ◌&&◌, eqb, List, [], ◌∷◌, ◌++◌, take, drop, is_some, Some, None, Option, sym, refl, ap, ◌∙◌, subst, add-one, arith}
+use mathlib.Core.Option.{Option as Maybe, some}
 use lib.ListN.{get_elem?}
 use Rattle.std.specs.List.{slice_get}
 use Rattle.std.proofs.lemmas.Bool.{false≢true}
 use Rattle.words.specs.Names.{Name, same_name}
 use Rattle.language.specs.declared.spans.Span.{Span}
-use Rattle.language.specs.declared.bindings.Binding.{Binding}
-use Rattle.language.specs.Names as names
 use Rattle.language.specs.Names.{bind, lookup, pantry_name}
 use Rattle.language.specs.Bindings.{part_of, spelled_in}
 use Rattle.language.specs.Typing as typing
 use Rattle.language.specs.Typing.{ExpandedType, Interfaces}
 use Rattle.language.specs.TypeOf.{same_type}
 use Rattle.language.specs.Check.{is_none}
-use Rattle.language.specs.Modules.{Made, made_type, made_value}
+use Rattle.language.specs.Modules.{Made}
 use Rattle.grammar.specs.declared.tree.Item.{Item}
 use Rattle.grammar.specs.declared.tree.Item.TheVariants as item
 use Rattle.grammar.specs.declared.tree.Node.{Node}
 use Rattle.grammar.specs.declared.tree.Node.TheVariants as node
-use Rattle.grammar.specs.Syntax.{WrittenType, Declaration, Module}
+use Rattle.grammar.specs.Syntax.{Declaration}
 use Rattle.grammar.specs.Table.{name_in, type_at, exp_at, Addition, nothing, declares, defines, ends, addition_by, addition_of, addition}
 use Rattle.rules.specs.declared.faults.CheckFault.TheVariants.{Repeated, Missing, Mismatch}
-use Rattle.rules.specs.Forms.{Out, good, after, want, give, ◌>>=◌, ◌>>◌}
+use Rattle.rules.specs.Forms.{Out, after, give}
 use Rattle.rules.specs.ItemForms.{match_opaque_f, match_f}
 use Rattle.rules.specs.Rules as rules
 use Rattle.rules.specs.Rules.{item_rules, supplied_by, expanding}
-use Rattle.rules.specs.Checking.{outside, onto, interface_of, with_module, match, match_all, check_body, check_module}
+use Rattle.rules.specs.Checking.{outside, onto, interface_of, match, match_all, check_body, check_module}
 use Rattle.typing.specs.declared.types.TypeEntry.{TypeEntry}
 use Rattle.typing.specs.declared.types.Slot.{Slot}
 use Rattle.typing.specs.declared.types.Slot.TheVariants as slot
 use Rattle.typing.specs.declared.types.Scope.{Scope}
 use Rattle.typing.specs.declared.types.Interface.{Interface}
 use Rattle.typing.specs.declared.types.Given.{Given}
-use Rattle.typing.specs.Tables.{State, Check, tables, interface_n, expand_n}
+use Rattle.typing.specs.Tables.{State, Check, tables, expand_n}
 use Rattle.typing.specs.Stands.{Stands, Holding, no_name, type-name, value-name, declares as declared, AllDeclare, none-declares, one-declares, Scoped}
-use Rattle.typing.proofs.Alike.{More, Nothing, Next, Alike, alike-good, next-refl, alike-less, then-alike, want-alike, known_alike, Both, neither, each}
+use Rattle.typing.proofs.Alike.{More, Nothing, Alike, alike-good, next-refl, alike-less, then-alike, want-alike, known_alike, Both, neither, each}
 use Rattle.typing.proofs.Rows.{same-tells}
-use Rattle.typing.proofs.Scopes.{elem-front, scoped-next, BothDeclare, neither-declares, both-declare, interface-both, all-kept, Inner}
+use Rattle.typing.proofs.Scopes.{elem-front, scoped-next, BothDeclare, neither-declares, both-declare, interface-both}
 use Rattle.typing.proofs.Simulation.{On, Goes, type-here}
-use Rattle.checker.specs.Items.{defines as defines_n, number_at, or_else, definition, definition_n, item_tables, declare_item, define_item, match_item, on_item, all_items, empty_at, body_n, no_interface, is_new, module_n, NodeHolds}
+use Rattle.checker.specs.Items.{or_else, definition, definition_n, item_tables, match_item, on_item, all_items, empty_at, body_n, no_interface, is_new, module_n, NodeHolds}
 use Rattle.checker.specs.Modules.{with_declaration, declarations_of, definitions_of, Ahead, no_more, type-ahead, value-ahead, interface_at, Left}
 use Rattle.checker.proofs.Declares.{then-with, modules-stay}
 use Rattle.checker.proofs.ItemsGo.{Each, each_none, each_more, on-all, declare-all-goes, define-all-goes}

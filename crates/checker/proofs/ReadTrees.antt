@@ -1,16 +1,14 @@
 -- The tree of a sheet that was read: it holds the parts of its items, and stands for that sheet.
-use Rattle.std.proofs.Common.{◌≡◌, ℕ, zero, suc, ◌+◌, ◌-◌, ◌<◌, ◌≤◌, max, true, List, [], ◌∷◌, ◌++◌, length, get_or, is_some, Some, None, Option, sym, refl, ap, ◌∙◌, subst, append_assoc, append-nil, arith, length-append}
+use Rattle.std.proofs.Common.{◌≡◌, ℕ, zero, suc, ◌+◌, ◌<◌, ◌≤◌, true, List, [], ◌∷◌, ◌++◌, length, get_or, is_some, Some, None, Option, sym, refl, ap, ◌∙◌, subst, append_assoc, append-nil, arith, length-append}
 use Rattle.std.specs.List.{slice_get}
 use Rattle.grammar.specs.declared.tree.Node.{Node}
 use Rattle.grammar.specs.declared.tree.Node.TheVariants as node
-use Rattle.grammar.specs.declared.tree.Item.TheVariants as item
 use Rattle.grammar.specs.Syntax as is
 use Rattle.grammar.specs.Syntax.{WrittenType, Exp, Declaration, Definition, Module, Sheet, inner_t, inner_e, inner_d, inner_f, inner_m, places, count, size}
-use Rattle.grammar.specs.Grammar.{levels_t, levels_d, levels_f, levels_m, levels_s, deepest}
-use Rattle.grammar.specs.Table.{of, nodes_t, nodes_e, nodes_d, nodes_f, nodes_m, nodes_s, nodes_of, type_at, exp_at, modules_of, sheet_at, SpelledT, SpelledD, SpelledF, SpelledM, SpelledS, Every}
+use Rattle.grammar.specs.Grammar.{levels_t, levels_d, levels_f, levels_m, deepest}
+use Rattle.grammar.specs.Table.{of, nodes_t, nodes_e, nodes_d, nodes_f, nodes_m, nodes_s, nodes_of, type_at, exp_at, modules_of, sheet_at, SpelledT, SpelledD, SpelledF, SpelledM, Every}
 use Rattle.grammar.specs.Reading.{Out, bad, good, reading}
 use Rattle.grammar.specs.Read.{nodes_read, IsRead}
-use Rattle.grammar.specs.Laws.{Lawful}
 use Rattle.grammar.proofs.Exactly.{exactly}
 use Rattle.grammar.proofs.Spelling.{reads-spelled}
 use Rattle.grammar.proofs.Laid.{Stand, length-nodes_t, length-nodes_e, length-nodes_d, length-nodes_f, length-nodes_of, length-nodes_m, length-nodes_s, type-laid, exp-laid, sheet-laid}

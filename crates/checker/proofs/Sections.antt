@@ -1,15 +1,14 @@
 -- The modules of the tree, one after the other.
-use Rattle.std.proofs.Common.{◌≡◌, ℕ, zero, suc, ◌+◌, ◌-◌, ◌<◌, ◌≤◌, List, [], ◌∷◌, ◌++◌, length, get_or, take, drop, Some, None, Option, sym, refl, ap, ◌∙◌, subst, add-one, arith, drop-cons}
+use Rattle.std.proofs.Common.{◌≡◌, ℕ, suc, ◌+◌, ◌<◌, ◌≤◌, List, [], ◌∷◌, length, get_or, take, drop, Some, None, Option, refl, ap, ◌∙◌, add-one, arith, drop-cons}
 use Rattle.std.proofs.lemmas.List.{drop_all}
 use Rattle.language.specs.declared.spans.Span.{Span}
 use Rattle.grammar.specs.declared.tree.Item.{Item}
 use Rattle.grammar.specs.declared.tree.Item.TheVariants as item
 use Rattle.grammar.specs.declared.tree.Node.{Node}
 use Rattle.grammar.specs.declared.tree.Node.TheVariants as node
-use Rattle.grammar.specs.Syntax.{Module, count}
+use Rattle.grammar.specs.Syntax.{Module}
 use Rattle.grammar.specs.Table.{name_in, type_at, exp_at, Addition, nothing, declares, defines, ends, addition_by, addition_of, addition, gather, modules_of}
-use Rattle.checker.specs.Items.{NodeIn, AllIn}
-use Rattle.checker.specs.Modules.{with_declaration, declarations_of, with_definition, definitions_of}
+use Rattle.checker.specs.Modules.{declarations_of, definitions_of}
 use Rattle.checker.specs.Sheets.{end_of_item, end_of, or_end, module_end}
 
 -- the search for a module's end, one place on

@@ -1,12 +1,12 @@
 -- What stands in the type table before anything of a sheet.
-use Rattle.std.proofs.Common.{◌≡◌, ℕ, ◌+◌, Bool, true, false, cond, ltb, leb, List, [], ◌∷◌, ◌++◌, length, Some, Ok, Err, Result, sym, refl, ap, ◌∙◌, subst, arith}
+use Rattle.std.proofs.Common.{◌≡◌, ℕ, Bool, true, false, cond, ltb, leb, List, [], ◌∷◌, ◌++◌, length, Some, Ok, Err, Result, sym, refl, ap, ◌∙◌, subst, arith}
 use Rattle.std.specs.List.{slice_get}
 use Rattle.std.proofs.lemmas.Bool.{true≢false}
 use Rattle.language.specs.Typing.{ExpandedType, int, bool}
 use Rattle.pantry.specs.declared.entries.Entry.{Entry}
 use Rattle.rules.specs.declared.faults.CheckFault.{CheckFault}
 use Rattle.rules.specs.declared.faults.CheckFault.TheVariants.{TooDeep, TypesFull}
-use Rattle.rules.specs.Forms.{Out, bad, good, after, want, give, ◌>>◌}
+use Rattle.rules.specs.Forms.{Out, bad, good, after, want, ◌>>◌}
 use Rattle.rules.specs.Rules.{depth, depth_limit, member, entering}
 use Rattle.rules.specs.Checking.{enter_all, kind_types}
 use Rattle.typing.specs.declared.types.TypeEntry.{TypeEntry}
@@ -14,11 +14,10 @@ use Rattle.typing.specs.declared.types.TypeEntry.TheVariants as entry
 use Rattle.typing.specs.declared.types.Slot.{Slot}
 use Rattle.typing.specs.declared.types.Known.{Known}
 use Rattle.typing.specs.declared.tables.Tables.{Tables}
-use Rattle.typing.specs.Tables.{State, state_of, Gave, adding}
+use Rattle.typing.specs.Tables.{State, state_of, Gave}
 use Rattle.typing.specs.Stands.{Stands, row-int, row-bool}
-use Rattle.typing.proofs.Alike.{Tie, Tells, Next, Alike, alike-bad, alike-good, next-refl}
+use Rattle.typing.proofs.Alike.{Tie, Alike, alike-bad, alike-good, next-refl}
 use Rattle.typing.proofs.Rows.{adding-alike}
-use Rattle.checker.specs.Sheets.{state_in}
 use Rattle.checker.specs.Stocks.{stock_in}
 use Rattle.checker.specs.Kinds.{Begun, AfterKinds, first_n, first_types, AfterStart}
 use Rattle.checker.proofs.InOrder.{gave-good, gave-bad}

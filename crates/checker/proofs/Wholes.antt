@@ -1,5 +1,5 @@
 -- The whole check, from the first types to the closing expression.
-use Rattle.std.proofs.Common.{◌≡◌, ℕ, ◌+◌, ◌≤◌, min, List, [], ◌∷◌, ◌++◌, length, take, drop, Some, Ok, Err, Result, sym, refl, ap, ◌∙◌, subst, arith}
+use Rattle.std.proofs.Common.{◌≡◌, ℕ, List, [], length, take, Some, Ok, Err, Result, refl, ap, ◌∙◌, subst, arith}
 use Rattle.std.specs.List.{slice_get}
 use Rattle.language.specs.Typing.{ExpandedType, stock_types}
 use Rattle.pantry.specs.declared.entries.Entry.{Entry}

@@ -1,5 +1,5 @@
 -- The types of the pantry's entries on the tables.
-use Rattle.std.specs.Prelude.{◌≡◌, ℕ, List, [], ◌∷◌, length, take, drop, Some, Ok, Err, Result}
+use Rattle.std.specs.Prelude.{◌≡◌, ℕ, List, ◌∷◌, length, take, drop, Some, Ok, Err, Result}
 use Rattle.std.specs.List.{slice_get}
 use Rattle.language.specs.Typing.{ExpandedType, int, bool, stock_types}
 use Rattle.pantry.specs.declared.entries.Kind.{Kind}

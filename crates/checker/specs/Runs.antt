@@ -1,5 +1,5 @@
 -- The whole check on the tables.
-use Rattle.std.specs.Prelude.{◌≡◌, ℕ, List, [], ◌∷◌, length, take, drop, replicate, Some, Ok, Err, Result}
+use Rattle.std.specs.Prelude.{◌≡◌, ℕ, List, length, take, drop, replicate, Some, Ok, Err, Result}
 use Rattle.std.specs.List.{slice_get}
 use Rattle.language.specs.Pantry.{Stock}
 use Rattle.language.specs.Typing.{ExpandedType}

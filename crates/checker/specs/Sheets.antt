@@ -1,5 +1,5 @@
 -- The modules of a sheet, found by going forward through the tree, and its closing expression.
-use Rattle.std.specs.Prelude.{◌≡◌, ℕ, suc, ◌+◌, ◌≤◌, min, List, [], ◌∷◌, ◌++◌, length, take, drop, Some, None, Ok, Err, Option, Result}
+use Rattle.std.specs.Prelude.{◌≡◌, ℕ, suc, ◌≤◌, min, List, [], ◌∷◌, ◌++◌, length, take, drop, Some, None, Ok, Err, Option, Result}
 use Rattle.std.specs.List.{slice_get}
 use Rattle.language.specs.declared.spans.Span.{Span}
 use Rattle.language.specs.Typing.{ExpandedType, int, bool, Interfaces}

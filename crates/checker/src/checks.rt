@@ -45,12 +45,12 @@ pub fn check<P: Pantry>(
     types: &mut [TypeEntry],
     slots: &mut [Slot],
 ) -> Result<u16, CheckFault>
-    ensures answered { Answered (stock_of (meaning pantry.now)) sheet.entry.text.now result
+    ensures answered { Answered (stock_of (P.meaning pantry.now)) sheet.entry.text.now result
         types.old slots.old types.new slots.new }
-    ensures promised { Promised (stock_of (meaning pantry.now)) sheet.entry.text.now result types.new }
-    ensures judged { Judged (stock_of (meaning pantry.now)) (places types.old) (places slots.old)
+    ensures promised { Promised (stock_of (P.meaning pantry.now)) sheet.entry.text.now result types.new }
+    ensures judged { Judged (stock_of (P.meaning pantry.now)) (places types.old) (places slots.old)
         sheet.entry.text.now result types.new }
-    ensures exchanged { Exchanged (stock_of (meaning pantry.now)) (places types.old) (places slots.old)
+    ensures exchanged { Exchanged (stock_of (P.meaning pantry.now)) (places types.old) (places slots.old)
         sheet.entry.text.now result types.new }
 {
     let mut entries = [BLANK_ENTRY; MOST_ENTRIES];

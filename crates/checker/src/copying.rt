@@ -16,8 +16,8 @@ pub const BLANK_ENTRY: Entry<'static> = Entry {
 // Copies the names and kinds of a pantry's entries to the front of a table, as many as it has places for: how many these are. What works on
 // such a table is not generic.
 pub fn copy_entries<'n, P: Pantry>(pantry: &'n P, table: &mut [Entry<'n>]) -> usize
-    ensures count { result ≡ min (length (meaning pantry.now)) (length table.old) }
-    ensures copied { stock_in (take result table.new) ≡ take result (stock_of (meaning pantry.now)) }
+    ensures count { result ≡ min (length (P.meaning pantry.now)) (length table.old) }
+    ensures copied { stock_in (take result table.new) ≡ take result (stock_of (P.meaning pantry.now)) }
     ensures rest { drop result table.new ≡ drop result table.old }
 {
     let count = pantry.count().min(table.len());

@@ -121,12 +121,12 @@ impl<'t, 'r, 'y, 'e, 'n> Job<'t, 'r, 'y, 'e, 'n> {
         allowance: u32,
     )
         ensures is { moment_of self.new cells.new frames.new ≡
-            after (plan_for self.old.pass) (meaning pantry.now) allowance
+            after (plan_for self.old.pass) (P.meaning pantry.now) allowance
             (moment_of self.old cells.old frames.old) }
         ensures behind { Behind cells.old cells.new frames.old frames.new }
-        ensures adds { (b : ℕ) → after (plan_for self.old.pass) (meaning pantry.now) (allowance + b)
+        ensures adds { (b : ℕ) → after (plan_for self.old.pass) (P.meaning pantry.now) (allowance + b)
             (moment_of self.old cells.old frames.old) ≡
-            after (plan_for self.old.pass) (meaning pantry.now) b
+            after (plan_for self.old.pass) (P.meaning pantry.now) b
             (moment_of self.new cells.new frames.new) }
         ensures pass { SamePass self.new.pass self.old.pass }
     {
@@ -159,13 +159,13 @@ impl<'t, 'r, 'y, 'e, 'n> Job<'t, 'r, 'y, 'e, 'n> {
         allowance: u32,
     ) -> Answer
         ensures is { moment_of self.new cells.new frames.new ≡
-            after (plan_for self.old.pass) (meaning pantry.now) allowance
+            after (plan_for self.old.pass) (P.meaning pantry.now) allowance
             (moment_of self.old cells.old frames.old) }
         ensures answer { answer_of result ≡ answer_for (job_of self.new) }
         ensures behind { Behind cells.old cells.new frames.old frames.new }
-        ensures adds { (b : ℕ) → after (plan_for self.old.pass) (meaning pantry.now) (allowance + b)
+        ensures adds { (b : ℕ) → after (plan_for self.old.pass) (P.meaning pantry.now) (allowance + b)
             (moment_of self.old cells.old frames.old) ≡
-            after (plan_for self.old.pass) (meaning pantry.now) b
+            after (plan_for self.old.pass) (P.meaning pantry.now) b
             (moment_of self.new cells.new frames.new) }
         ensures pass { SamePass self.new.pass self.old.pass }
     {

@@ -30,7 +30,7 @@ fn taken(entry: u8, kind: Kind) -> Action
 
 // `from pantry take x`.
 pub(crate) fn from_entry<P: Pantry>(pantry: &P, name: &[u8]) -> Option<Action>
-    ensures { Asks result (λ _ _. from_entry (entry_for (meaning pantry.now) name.now)) }
+    ensures { Asks result (λ _ _. from_entry (entry_for (P.meaning pantry.now) name.now)) }
 {
     for i in 0..pantry.count() {
         let Some(e) = pantry.entry(i) else {
@@ -45,14 +45,14 @@ pub(crate) fn from_entry<P: Pantry>(pantry: &P, name: &[u8]) -> Option<Action>
 
 // Is there an entry of that number?
 fn is_listed<P: Pantry>(pantry: &P, entry: u8) -> bool
-    ensures { result ≡ nat_lt «entry» (length (meaning pantry.now)) }
+    ensures { result ≡ nat_lt «entry» (length (P.meaning pantry.now)) }
 {
     usize::from(entry) < pantry.count()
 }
 
 // A pantry procedure gets its argument.
 pub(crate) fn asked<P: Pantry>(pantry: &P, entry: u8, value: Value) -> Option<Action>
-    ensures { AsksWith (meaning pantry.now) result (λ d w. asking w d «entry» (value_of value)) }
+    ensures { AsksWith (P.meaning pantry.now) result (λ d w. asking w d «entry» (value_of value)) }
 {
     let Value::Integer(argument) = value else {
         return None;

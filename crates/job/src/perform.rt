@@ -33,7 +33,7 @@ use pantry::pantries::{Pantry, ask};
 
 // An entry's answer to an argument.
 fn fetched<P: Pantry>(pantry: &P, entry: u8, argument: i32) -> Result<Value, Reason>
-    ensures { tried_of result ≡ replied «entry» argument (fetch (meaning pantry.now) «entry» argument) }
+    ensures { tried_of result ≡ replied «entry» argument (fetch (P.meaning pantry.now) «entry» argument) }
 {
     let answer = ask(pantry, entry, argument)?;
     match answer {
@@ -44,7 +44,7 @@ fn fetched<P: Pantry>(pantry: &P, entry: u8, argument: i32) -> Result<Value, Rea
 
 // What is to be handed on, if it can be had.
 fn tried<P: Pantry>(pantry: &P, what: Yield) -> Result<Value, Reason>
-    ensures { tried_of result ≡ try (meaning pantry.now) (yield_of what) }
+    ensures { tried_of result ≡ try (P.meaning pantry.now) (yield_of what) }
 {
     match what {
         Yield::Plain(value) => Ok(value),
@@ -211,7 +211,7 @@ fn hand_on<P: Pantry>(
     what: Yield,
 ) -> Outcome
     ensures is { (cells : List Cell) → MovesIf registers cells cells frames.old frames.new result
-        (λ text s g. handing s g (frames_of (registers.frames - 1) which) (try (meaning pantry.now) (yield_of what))) }
+        (λ text s g. handing s g (frames_of (registers.frames - 1) which) (try (P.meaning pantry.now) (yield_of what))) }
     ensures stays { StaysIf registers result }
     ensures spared { (cells : List Cell) → Spared cells cells frames.old frames.new result }
 {
@@ -274,7 +274,7 @@ pub(crate) fn perform<P: Pantry>(
     requires room { Room program.tree.now registers }
     requires cells_short { length cells.old ≤ 65535 }
     requires frames_short { length frames.old ≤ 65535 }
-    ensures is { Performs program.entry (meaning pantry.now) scopes.old scopes.new
+    ensures is { Performs program.entry (P.meaning pantry.now) scopes.old scopes.new
         cells.old cells.new frames.old frames.new registers result
         (λ text w s g. perform_of w s g (action_of text (registers.frames - 1) action)) }
     ensures size { length scopes.new ≡ 32 }

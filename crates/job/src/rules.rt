@@ -165,7 +165,7 @@ fn node_at(tree: &[Node], part: u16) -> Node
 
 // An operator gets its operand.
 fn applied<P: Pantry>(tree: &[Node], pantry: &P, operator: Value, operand: Value) -> Option<Action>
-    ensures { AsksIn tree.now (meaning pantry.now) result
+    ensures { AsksIn tree.now (P.meaning pantry.now) result
         (λ text d w. applying w d (value_of operator) (value_of operand)) }
 {
     match operator {
@@ -203,7 +203,7 @@ fn on_second<P: Pantry>(
     first: Value,
     value: Value,
 ) -> Option<Action>
-    ensures { AsksIn tree.now (meaning pantry.now) result
+    ensures { AsksIn tree.now (P.meaning pantry.now) result
         (λ text d w. on_second w d (value_of first) (value_of value) (node_of text node)) }
 {
     let Node::Expression(node) = node else {
@@ -218,7 +218,7 @@ fn on_second<P: Pantry>(
 
 // The top frame gets a value.
 fn on_frame<P: Pantry>(tree: &[Node], pantry: &P, frame: Frame, value: Value) -> Option<Action>
-    ensures { AsksIn tree.now (meaning pantry.now) result
+    ensures { AsksIn tree.now (P.meaning pantry.now) result
         (λ text d w. on_frame w d (value_of value) (frame_of frame)) }
 {
     match frame {
@@ -263,7 +263,7 @@ fn qualified<P: Pantry>(
     module: &[u8],
     name: &[u8],
 ) -> Option<Action>
-    ensures { AsksAt text.now cells.now scopes.now (meaning pantry.now) result
+    ensures { AsksAt text.now cells.now scopes.now (P.meaning pantry.now) result
         (λ w s g. on_qualified w s g «module».now name.now) }
 {
     if same_name(b"pantry", module) {
@@ -285,7 +285,7 @@ fn on_node<P: Pantry>(
     part: u16,
     scope: u16,
 ) -> Option<Action>
-    ensures { AsksAt text.now cells.now scopes.now (meaning pantry.now) result
+    ensures { AsksAt text.now cells.now scopes.now (P.meaning pantry.now) result
         (λ w s g. on_node w s g part scope (node_of text.now node)) }
 {
     let Node::Expression(node) = node else {
@@ -342,7 +342,7 @@ pub(crate) fn rule_for<P: Pantry>(
 ) -> Option<Action>
     requires { registers.ended ≤ length scopes.now }
     ensures { decided program.entry.text.now (registers.frames - 1) result ≡
-        rule_for (program_with program.entry (meaning pantry.now))
+        rule_for (program_with program.entry (P.meaning pantry.now))
         (stored program.entry.text.now cells.now frames.now)
         (registers_of program.entry.text.now program.entry.tree.now scopes.now registers) }
 {

@@ -30,7 +30,7 @@ fn step<P: Pantry>(
     requires room { Room program.tree.now registers }
     requires cells_short { length cells.old ≤ 65535 }
     requires frames_short { length frames.old ≤ 65535 }
-    ensures is { Performs program.entry (meaning pantry.now) scopes.old scopes.new
+    ensures is { Performs program.entry (P.meaning pantry.now) scopes.old scopes.new
         cells.old cells.new frames.old frames.new registers result (λ text w s g. step_of w s g) }
     ensures size { length scopes.new ≡ 32 }
     ensures room { RoomAfter program.entry.tree.now result }
@@ -58,7 +58,7 @@ fn stepping<P: Pantry>(
     requires cells_short { length cells.old ≤ 65535 }
     requires frames_short { length frames.old ≤ 65535 }
     requires counted { made ≤ 4000000000 }
-    ensures is { Advances program.entry (meaning pantry.now) scopes.old scopes.new
+    ensures is { Advances program.entry (P.meaning pantry.now) scopes.old scopes.new
         cells.old cells.new frames.old frames.new start made allowance result }
     ensures size { length scopes.new ≡ 32 }
     ensures room { room_of program.entry.tree.now result.status ≤ 32 }
@@ -111,7 +111,7 @@ pub(crate) fn stepping_within<P: Pantry>(
     requires table { length scopes.old ≡ 32 }
     requires room { Room program.tree.now start }
     requires counted { made ≤ 4000000000 }
-    ensures is { Advances program.entry (meaning pantry.now) scopes.old scopes.new
+    ensures is { Advances program.entry (P.meaning pantry.now) scopes.old scopes.new
         (within cells.old) (within cells.new) (within frames.old) (within frames.new) start made
         allowance result }
     ensures behind { Behind cells.old cells.new frames.old frames.new }

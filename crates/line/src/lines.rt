@@ -18,7 +18,7 @@ const LEVELS: u8 = 32;
 
 // The name of an entry, or nothing where the pantry has no such entry.
 fn entry_name<P: Pantry>(pantry: &P, i: u8) -> &[u8]
-    ensures { result.now ≡ name_of (get_elem? (stock_of (meaning pantry.now)) i) }
+    ensures { result.now ≡ name_of (get_elem? (stock_of (P.meaning pantry.now)) i) }
 {
     match pantry.entry(usize::from(i)) {
         Some(entry) => entry.name,
@@ -83,7 +83,7 @@ impl Writer<'_> {
 
     // Appends why a job stopped: the number, and where the pantry has no answer the entry's name and the argument.
     fn stop<P: Pantry>(&mut self, pantry: &P, stop: Stop)
-        ensures { Wrote (stop_bytes (meaning pantry.now) stop) self.old self.new }
+        ensures { Wrote (stop_bytes (P.meaning pantry.now) stop) self.old self.new }
     {
         self.number(stop.number() as u64);
         if let Stop::NoAnswer(fault) = stop {
@@ -96,7 +96,7 @@ impl Writer<'_> {
 
     // Appends the line of an outcome.
     fn outcome<P: Pantry>(&mut self, pantry: &P, closing: ClosingType, outcome: Outcome)
-        ensures { Wrote (line_of (meaning pantry.now) (closing_of closing.entry) outcome)
+        ensures { Wrote (line_of (P.meaning pantry.now) (closing_of closing.entry) outcome)
             self.old self.new }
     {
         match outcome {
@@ -129,9 +129,9 @@ pub fn write_line<P: Pantry>(
     buffer: &mut [u8],
 ) -> Result<usize, TooShort>
     ensures answer { result ≡
-        answer (line_of (meaning pantry.now) (closing_of closing.entry) outcome) buffer.old }
+        answer (line_of (P.meaning pantry.now) (closing_of closing.entry) outcome) buffer.old }
     ensures written { buffer.new ≡
-        written (line_of (meaning pantry.now) (closing_of closing.entry) outcome) buffer.old }
+        written (line_of (P.meaning pantry.now) (closing_of closing.entry) outcome) buffer.old }
 {
     let mut writer = Writer {
         buffer,

@@ -29,7 +29,7 @@ fn tell_run<P: Pantry>(
     allowance: u32,
     buffer: &mut [u8],
 ) -> Result<usize, TooShort>
-    ensures { Wrote (ran_line (meaning pantry.now) (plan_for pass.entry) (length cells.old) (length frames.old)
+    ensures { Wrote (ran_line (P.meaning pantry.now) (plan_for pass.entry) (length cells.old) (length frames.old)
         allowance (type_told pass.entry.sheet.text.now pass.entry.types.now pass.entry.number)) result buffer.old buffer.new }
 {
     let closing = ClosingType {
@@ -54,9 +54,9 @@ fn tell_checked<P: Pantry>(
     allowance: u32,
     buffer: &mut [u8],
 ) -> Result<usize, TooShort>
-    ensures { Wrote (checked_line (meaning pantry.now)
+    ensures { Wrote (checked_line (P.meaning pantry.now)
         (plan_of sheet.entry.text.now sheet.entry.tree.now sheet.entry.close) (length cells.old) (length frames.old) allowance
-        (checking (stock_of (meaning pantry.now)) (counted (length types.old)) (counted (length slots.old))
+        (checking (stock_of (P.meaning pantry.now)) (counted (length types.old)) (counted (length slots.old))
         (sheet_in sheet.entry.text.now))) result buffer.old buffer.new }
 {
     match check(sheet, pantry, types, slots) {
@@ -82,7 +82,7 @@ fn tell_text<P: Pantry>(
     allowance: u32,
     buffer: &mut [u8],
 ) -> Result<usize, TooShort>
-    ensures { Wrote (read_line (meaning pantry.now) text.now (length types.old) (length slots.old)
+    ensures { Wrote (read_line (P.meaning pantry.now) text.now (length types.old) (length slots.old)
         (length cells.old) (length frames.old) allowance (reading (counted (length tree.old)) text.now))
         result buffer.old buffer.new }
 {

@@ -4,7 +4,7 @@ use Rattle.pantry.specs.declared.entries.Entry.{Entry}
 use Rattle.checker.specs.Stocks.{stock_in}
 use Rattle.checker.proofs.Copies.{one-copied, one-behind, all_listed}
 use Rattle.checker.proofs.copying.copy_entries.Goals as goal
-use Rattle.checker.proofs.copying.copy_entries.Goals.{in-Some, in-default}
+use Rattle.checker.proofs.copying.copy_entries.Goals.{in-Some, in_default}
 
 pub loop-i-preserved : goal.loop-i-preserved
 loop-i-preserved g c =
@@ -18,5 +18,5 @@ loop-i-preserved g c =
         one-copied p c.loop-i.table i w.in-Some.entry h c.loop-i.invariant.0 w.in-Some.ensures,
         one-behind c.loop-i.table c.args.table.now i w.in-Some.entry c.loop-i.invariant.1,
       )
-      | in-default w ↦ absurd (all_listed p i n w.in-default.ensures)
+      | in_default w ↦ absurd (all_listed p i n w.in_default.ensures)
     ]

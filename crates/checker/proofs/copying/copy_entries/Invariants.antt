@@ -1,4 +1,4 @@
-use Rattle.std.proofs.Common.{◌≡◌, length, take, drop}
+use Rattle.std.proofs.Common.{◌≡◌, take, drop}
 use Rattle.language.specs.Pantry.{stock_of}
 use Rattle.checker.specs.Stocks.{stock_in}
 use Rattle.checker.proofs.copying.copy_entries.Given as goal

@@ -14,6 +14,6 @@ pub returns-in-Declared : goal.returns-in-Declared
 unfolding declare_item
 returns-in-Declared c = search rules
 
-pub returns-in-default-item : goal.returns-in-default-item
+pub returns-in_default-item : goal.returns-in_default-item
 unfolding declare_item
-returns-in-default-item c = search rules
+returns-in_default-item c = search rules

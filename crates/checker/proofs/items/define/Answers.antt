@@ -10,6 +10,6 @@ pub returns-in-ValueIs : goal.returns-in-ValueIs
 unfolding define_item
 returns-in-ValueIs c = search rules
 
-pub returns-in-default-item : goal.returns-in-default-item
+pub returns-in_default-item : goal.returns-in_default-item
 unfolding define_item
-returns-in-default-item c = search rules
+returns-in_default-item c = search rules

@@ -1,10 +1,10 @@
-use Rattle.std.proofs.Common.{◌≡◌, ℕ, ◌+◌, ◌≤◌, min, length, Some, sym, ap, ◌∙◌, arith}
+use Rattle.std.proofs.Common.{ℕ, ◌+◌, ◌≤◌, min, length, Some, sym, ap, ◌∙◌, arith}
 use Rattle.checker.proofs.Definitions.{def-here, def-on, def_none}
 use Rattle.checker.proofs.items.definition_in.Goals as goal
 
 pub returns-then-defines : goal.returns-then-defines
 returns-then-defines c =
-    ap (λ (t : ℕ). Some (t, c.loop-k.k + 1)) c.number-at.ensures ∙
+    ap (λ (t : ℕ). Some (t, c.loop-k.k + 1)) c.number_at.ensures ∙
     sym (c.loop-k.invariant ∙ def-here _ _ _ _ _ _ _ c.loop-k-test.true c.if-k-slots.true (sym c.if-defines.ensures))
 
 pub loop-k-preserved : goal.loop-k-preserved

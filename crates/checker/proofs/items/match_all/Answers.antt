@@ -1,9 +1,8 @@
-use Rattle.std.proofs.Common.{◌≡◌, ℕ, ◌≤◌, length, get_or, Ok, Err, sym, ap, ◌∙◌, subst, arith, rules}
+use Rattle.std.proofs.Common.{ℕ, ◌≤◌, length, get_or, Ok, Err, sym, ap, ◌∙◌, subst, arith, rules}
 use Rattle.std.proofs.lemmas.Result.{err_from_is_err_and}
 use Rattle.grammar.specs.declared.tree.Node.TheVariants as node
 use Rattle.typing.specs.declared.types.Given.{Given}
-use Rattle.typing.specs.declared.types.Scope.{Scope}
-use Rattle.rules.specs.Forms.{Out, good}
+use Rattle.rules.specs.Forms.{Out}
 use Rattle.typing.specs.Tables.{State, state_of, Gave}
 use Rattle.checker.specs.Items.{NodeHolds, on_item, match_item}
 use Rattle.checker.proofs.InOrder.{kept_trans, items-on, items-bad, items-end}
@@ -13,23 +12,23 @@ pub matched-requires : goal.matched-requires
 matched-requires c =
     subst (λ (w : Given). NodeHolds w (get_or c.args.nodes.now c.loop-node.node-index node.Blank)) (sym c.loop-node.invariant.0.given) (c.requires c.loop-node.node-index c.loop-node-test.true)
 
-pub returns-in-err-from : goal.returns-in-err-from
-returns-in-err-from c =
-    let e = c.in-err-from.ensures in
-    let p = err_from_is_err_and c.from-residual.result c.from-residual.ensures.1 in
-    let o = c.loop-node.invariant.1 ∙ items-bad (match_item c.args.tables.now.given c.args.body) c.args.nodes.now c.loop-node.node-index node.Blank c.loop-node.from (state_of c.loop-node.tables) c.in-err-from.field-0.0 c.matched.new.tables c.loop-node-test.true
-    (subst (λ (w : Given). Gave (on_item (match_item w c.args.body) (get_or c.args.nodes.now c.loop-node.node-index node.Blank) c.loop-node.from (state_of c.loop-node.tables)) (Err c.in-err-from.field-0.0) c.matched.new.tables) c.loop-node.invariant.0.given e.gives) in
+pub returns-in_err-from : goal.returns-in_err-from
+returns-in_err-from c =
+    let e = c.in_err-from.ensures in
+    let p = err_from_is_err_and c.from_residual.result c.from_residual.ensures.1 in
+    let o = c.loop-node.invariant.1 ∙ items-bad (match_item c.args.tables.now.given c.args.body) c.args.nodes.now c.loop-node.node-index node.Blank c.loop-node.from (state_of c.loop-node.tables) c.in_err-from.field-0.0 c.matched.new.tables c.loop-node-test.true
+    (subst (λ (w : Given). Gave (on_item (match_item w c.args.body) (get_or c.args.nodes.now c.loop-node.node-index node.Blank) c.loop-node.from (state_of c.loop-node.tables)) (Err c.in_err-from.field-0.0) c.matched.new.tables) c.loop-node.invariant.0.given e.gives) in
     record {
       kept = kept_trans c.args.tables.now c.loop-node.tables c.matched.new.tables c.loop-node.invariant.0 e.kept;
-      gives = subst (λ (x : Out State ℕ). Gave x c.from-residual.result c.matched.new.tables) (sym o) (p.1 ∙ ap Err p.2);
+      gives = subst (λ (x : Out State ℕ). Gave x c.from_residual.result c.matched.new.tables) (sym o) (p.1 ∙ ap Err p.2);
     }
 
 pub loop-node-preserved : goal.loop-node-preserved
 loop-node-preserved c =
-    let e = c.in-ok-from.ensures in (
+    let e = c.in_ok-from.ensures in (
       kept_trans c.args.tables.now c.loop-node.tables c.matched.new.tables c.loop-node.invariant.0 e.kept,
-      c.loop-node.invariant.1 ∙ items-on (match_item c.args.tables.now.given c.args.body) c.args.nodes.now c.loop-node.node-index node.Blank c.loop-node.from (state_of c.loop-node.tables) c.in-ok-from.from c.matched.new.tables c.loop-node-test.true
-          (subst (λ (w : Given). Gave (on_item (match_item w c.args.body) (get_or c.args.nodes.now c.loop-node.node-index node.Blank) c.loop-node.from (state_of c.loop-node.tables)) (Ok c.in-ok-from.from) c.matched.new.tables) c.loop-node.invariant.0.given e.gives),
+      c.loop-node.invariant.1 ∙ items-on (match_item c.args.tables.now.given c.args.body) c.args.nodes.now c.loop-node.node-index node.Blank c.loop-node.from (state_of c.loop-node.tables) c.in_ok-from.from c.matched.new.tables c.loop-node-test.true
+          (subst (λ (w : Given). Gave (on_item (match_item w c.args.body) (get_or c.args.nodes.now c.loop-node.node-index node.Blank) c.loop-node.from (state_of c.loop-node.tables)) (Ok c.in_ok-from.from) c.matched.new.tables) c.loop-node.invariant.0.given e.gives),
     )
 
 pub returns : goal.returns

@@ -1,4 +1,4 @@
-use Rattle.std.proofs.Common.{◌≡◌, ℕ, ◌+◌, ◌-◌, ◌<◌, ◌≤◌, min, length, drop, Ok, Err, Result, sym, refl, ap, ◌∙◌, subst, arith, rules}
+use Rattle.std.proofs.Common.{◌≡◌, ℕ, min, length, drop, Err, Result, sym, ap, ◌∙◌, subst, arith, rules}
 use Rattle.std.proofs.lemmas.Result.{err_from_is_err_and}
 use Rattle.rules.specs.declared.faults.CheckFault.{CheckFault}
 use Rattle.grammar.specs.Syntax.{count}
@@ -18,10 +18,10 @@ step-requires c =
       range = range c.args.text.now c.args.tree.now c.loop-end.at.start c.in-Some.end c.in-Some.name (sym c.in-Some.ensures);
     }
 
-pub returns-in-err-at : goal.returns-in-err-at
-returns-in-err-at c =
-    let e = c.in-err-at.ensures in
-    let p = err_from_is_err_and c.from-residual.result c.from-residual.ensures.1 in
+pub returns-in_err-at : goal.returns-in_err-at
+returns-in_err-at c =
+    let e = c.in_err-at.ensures in
+    let p = err_from_is_err_and c.from_residual.result c.from_residual.ensures.1 in
     record {
       fits = search rules;
       goes = λ base h ts s.
@@ -31,20 +31,20 @@ returns-in-err-at c =
           c.step.new.interfaces c.step.new.types c.step.new.slots) (sym (p.1 ∙ ap Err p.2))
           (going-bad c.args.text.now c.args.tree.now base c.args.entries.now (places c.args.types.now) (places c.args.slots.now) h ts
           c.loop-end.interfaces c.loop-end.types c.loop-end.slots c.loop-end.at c.in-Some.end c.in-Some.name (sym c.in-Some.ensures)
-          (c.loop-end.invariant.1 base h ts s) c.step.new.interfaces c.step.new.types c.step.new.slots c.in-err-at.field-0.0
+          (c.loop-end.invariant.1 base h ts s) c.step.new.interfaces c.step.new.types c.step.new.slots c.in_err-at.field-0.0
           (ap (λ (n : ℕ). min n 65535) kt) (ap (λ (n : ℕ). min n 65535) ks) e.goes);
     }
 
 pub loop-end-smaller : goal.loop-end-smaller
 loop-end-smaller c =
     let r = range c.args.text.now c.args.tree.now c.loop-end.at.start c.in-Some.end c.in-Some.name (sym c.in-Some.ensures) in
-    let e = c.in-ok-at.ensures.next.1 in
+    let e = c.in_ok-at.ensures.next.1 in
     let a = r.0 in let b = r.1 in
     omega arith
 
 pub loop-end-preserved : goal.loop-end-preserved
 loop-end-preserved c =
-    let e = c.in-ok-at.ensures in
+    let e = c.in_ok-at.ensures in
     let n = one_more c.args.text.now c.args.tree.now c.loop-end.at.start c.in-Some.end c.in-Some.name (sym c.in-Some.ensures) in
     let i = c.loop-end.invariant.0 in
     let m = e.next.0 in
@@ -56,7 +56,7 @@ loop-end-preserved c =
       λ base h ts s.
           going_on c.args.text.now c.args.tree.now base c.args.entries.now (places c.args.types.now) (places c.args.slots.now) h ts
           c.loop-end.interfaces c.loop-end.types c.loop-end.slots c.loop-end.at c.in-Some.end c.in-Some.name (sym c.in-Some.ensures)
-          (c.loop-end.invariant.1 base h ts s) c.step.new.interfaces c.step.new.types c.step.new.slots c.in-ok-at.at
+          (c.loop-end.invariant.1 base h ts s) c.step.new.interfaces c.step.new.types c.step.new.slots c.in_ok-at.at
           (ap (λ (n : ℕ). min n 65535) kt) (ap (λ (n : ℕ). min n 65535) ks) e.goes e.next.1,
     )
 
@@ -68,5 +68,5 @@ returns c =
       fits = omega arith;
       goes = λ base h ts s.
           gone c.args.text.now c.args.tree.now base c.args.entries.now (places c.args.types.now) (places c.args.slots.now) h ts
-          c.loop-end.interfaces c.loop-end.types c.loop-end.slots c.loop-end.at (sym c.in-default.ensures) (c.loop-end.invariant.1 base h ts s);
+          c.loop-end.interfaces c.loop-end.types c.loop-end.slots c.loop-end.at (sym c.in_default.ensures) (c.loop-end.invariant.1 base h ts s);
     }

@@ -6,4 +6,4 @@ pub returns : goal.returns
 returns c = λ base h ts b.
     closing-ran (record { text = c.args.text; tree = c.args.tree; interfaces = c.args.interfaces; entries = c.args.entries })
     (places c.args.types.now) (places c.args.slots.now) base c.args.types.now c.args.count c.args.slots.now c.args.used c.args.close
-    h ts b c.run-closing.result c.run-closing.new.types c.run-closing.new.slots c.run-closing.ensures
+    h ts b c.run_closing.result c.run_closing.new.types c.run_closing.new.slots c.run_closing.ensures

@@ -1,5 +1,4 @@
-use Rattle.std.proofs.Common.{◌≡◌, ◌≤◌, length, sym, ap, ◌∙◌, arith}
-use Rattle.grammar.specs.declared.tree.Node.TheVariants as node
+use Rattle.std.proofs.Common.{◌≤◌, length, sym, ◌∙◌, arith}
 use Rattle.checker.proofs.Sections.{end-here, end_on, end_none}
 use Rattle.checker.proofs.sheets.module_end.Goals as goal
 
