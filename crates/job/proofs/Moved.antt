@@ -1,5 +1,5 @@
 -- Each action on the tables is the machine's.
-use Rattle.std.proofs.Common.{◌≡◌, ℕ, zero, suc, ◌+◌, ◌-◌, ◌≤◌, Bool, ltb, List, [], ◌∷◌, map, length, set, sym, refl, ap, ◌∙◌, subst, arith}
+use Rattle.std.proofs.Common.{◌≡◌, ℕ, zero, suc, ◌+◌, ◌≤◌, Bool, ltb, List, [], ◌∷◌, map, length, set, sym, refl, ap, ◌∙◌, subst, arith}
 use lib.ListN.{length-map}
 use lib.Seq.{map-set}
 use Rattle.language.specs.Machine.{Store, Registers as Regs, Control, next, onward, with_cell, with_frame, begin}

@@ -1,5 +1,5 @@
 -- From the tables that count to the store that was lent.
-use Rattle.std.proofs.Common.{◌≡◌, ℕ, ◌+◌, min, List, [], map, length, take, replicate, sym, refl, ap, ◌∙◌, subst, arith, length-take}
+use Rattle.std.proofs.Common.{◌≡◌, ℕ, ◌+◌, min, List, map, length, take, replicate, sym, refl, ap, ◌∙◌, subst, arith, length-take}
 use lib.ListN.{length-map}
 use lib.LanesLaws.{map-replicate}
 use Rattle.std.proofs.lemmas.List.{take-map}
@@ -8,7 +8,7 @@ use Rattle.language.specs.Pantry.{Pantry}
 use Rattle.language.specs.Machine as machine
 use Rattle.language.specs.Job as language
 use Rattle.language.proofs.Advances.{advances-add, ended-stays}
-use Rattle.grammar.specs.Plan.{plan_of, tasks_of}
+use Rattle.grammar.specs.Plan.{plan_of}
 use Rattle.grammar.specs.declared.tree.Node.{Node}
 use Rattle.job.specs.declared.tables.Cell.{Cell}
 use Rattle.job.specs.declared.tables.Cell.TheVariants as cell

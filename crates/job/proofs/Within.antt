@@ -1,5 +1,5 @@
 -- The places of a table that count, lent and given back.
-use Rattle.std.proofs.Common.{◌≡◌, ℕ, ◌-◌, ◌<◌, ◌≤◌, min, ◌⊎◌, List, ◌++◌, length, take, drop, sym, ap, ◌∙◌, subst, ⊎_elim, eq-or-lt_of_le, arith, length-take}
+use Rattle.std.proofs.Common.{◌≡◌, ℕ, ◌-◌, ◌<◌, ◌≤◌, min, List, ◌++◌, length, take, drop, sym, ap, ◌∙◌, subst, ⊎_elim, eq-or-lt_of_le, arith, length-take}
 use Rattle.std.proofs.lemmas.List.{take_all, drop_all, take_at, append-nil}
 use Rattle.std.proofs.lemmas.Slice.{drop-append-drop}
 use Rattle.job.specs.Advances.{within, behind as behind-of}

@@ -13,7 +13,7 @@ mod perform;
 mod programs;
 pub mod reasons;
 mod registers;
-mod rules;
+mod rule_choice;
 mod steps;
 pub mod tables;
 

@@ -10,7 +10,7 @@ use crate::perform::perform;
 use crate::programs::Program;
 use crate::reasons::Reason;
 use crate::registers::{ModuleScope, Registers};
-use crate::rules::rule_for;
+use crate::rule_choice::rule_for;
 use crate::tables::{Cell, Frame};
 use pantry::pantries::Pantry;
 

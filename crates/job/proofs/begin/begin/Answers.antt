@@ -11,7 +11,7 @@ pub bounds-scopes-from : goal.bounds-scopes-from
 bounds-scopes-from c =
     let ns = c.args.program.tree.now in
     let e = task-at [] ns c.loop-tree.next c.from-in-loop-tree.result _ _ (omega arith) c.from-in-loop-tree.ensures
-    c.in-EndModule.is (c.task-of-found.ensures []) in
+    c.in-EndModule.is (c.task_of-found.ensures []) in
     omega (arith, ends-module ns c.loop-tree.next c.in-EndModule.name e)
 
 pub returns-in-Define : goal.returns-in-Define
@@ -21,7 +21,7 @@ returns-in-Define c =
     let tasks : (text : List ℕ) → tasks_of text (drop at ns) ≡
     before text (Define c.in-Define.name c.in-Define.part) (tasks_of text (drop (at + 1) ns)) =
     λ text. task-at text ns at c.from-in-loop-tree.result _ _ (omega arith) c.from-in-loop-tree.ensures c.in-Define.is
-    (c.task-of-found.ensures text) in
+    (c.task_of-found.ensures text) in
     record {
       is = λ text. sym (c.loop-tree.invariant.0 text c.args.program.close c.args.cells ∙
           ap (begin c.args.program.close c.args.cells (map (scope_of text) (take c.loop-tree.ended c.loop-tree.scopes))
@@ -37,7 +37,7 @@ loop-tree-preserved-in-EndModule c =
     let tasks : (text : List ℕ) → tasks_of text (drop at ns) ≡
     before text (EndModule c.in-EndModule.name) (tasks_of text (drop (at + 1) ns)) =
     λ text. task-at text ns at c.from-in-loop-tree.result _ _ (omega arith) c.from-in-loop-tree.ensures c.in-EndModule.is
-    (c.task-of-found.ensures text) in
+    (c.task_of-found.ensures text) in
     let b = ends-module ns at c.in-EndModule.name (tasks []) in
     let l : c.loop-tree.ended < length c.loop-tree.scopes = omega (arith, b, c.loop-tree.invariant.1, c.loop-tree.invariant.2) in (
       (λ text close cells. c.loop-tree.invariant.0 text close cells ∙
@@ -56,7 +56,7 @@ loop-tree-preserved c =
     let at = c.loop-tree.next in
     let tasks : (text : List ℕ) → tasks_of text (drop at ns) ≡ before text Nothing (tasks_of text (drop (at + 1) ns)) =
     λ text. task-at text ns at c.from-in-loop-tree.result _ _ (omega arith) c.from-in-loop-tree.ensures c.in-Nothing.is
-    (c.task-of-found.ensures text) in (
+    (c.task_of-found.ensures text) in (
       (λ text close cells. c.loop-tree.invariant.0 text close cells ∙
           ap (begin close cells (map (scope_of text) (take c.loop-tree.ended c.loop-tree.scopes)) c.loop-tree.scope)
           (tasks text)),

@@ -14,11 +14,11 @@ returns-in-Hands g c =
     (registers_of p.text.now p.tree.now c.args.scopes.now c.args.registers)
     (action_of p.text.now (c.args.registers.frames - 1) a) in
     record {
-      is = c.hand-on.ensures.is c.args.cells.now p.text.now p.tree.now c.args.scopes.now ∙ ap does
+      is = c.hand_on.ensures.is c.args.cells.now p.text.now p.tree.now c.args.scopes.now ∙ ap does
           (sym c.in-Hands.is);
       size = c.requires.table;
-      room = room_after p.tree.now c.args.registers c.hand-on.result c.hand-on.ensures.stays c.requires.room;
-      spared = c.hand-on.ensures.spared c.args.cells.now;
+      room = room_after p.tree.now c.args.registers c.hand_on.result c.hand_on.ensures.stays c.requires.room;
+      spared = c.hand_on.ensures.spared c.args.cells.now;
     }
 
 pub returns-in-Binds : goal.returns-in-Binds
@@ -58,11 +58,11 @@ returns-in-PutsDown g c =
     (registers_of p.text.now p.tree.now c.args.scopes.now c.args.registers)
     (action_of p.text.now (c.args.registers.frames - 1) a) in
     record {
-      is = c.put-down.ensures.is w c.args.cells.now p.text.now p.tree.now c.args.scopes.now ∙ ap does
+      is = c.put_down.ensures.is w c.args.cells.now p.text.now p.tree.now c.args.scopes.now ∙ ap does
           (sym c.in-PutsDown.is);
       size = c.requires.table;
-      room = room_after p.tree.now c.args.registers c.put-down.result c.put-down.ensures.stays c.requires.room;
-      spared = c.put-down.ensures.spared c.args.cells.now;
+      room = room_after p.tree.now c.args.registers c.put_down.result c.put_down.ensures.stays c.requires.room;
+      spared = c.put_down.ensures.spared c.args.cells.now;
     }
 
 pub returns-in-Replaces : goal.returns-in-Replaces

@@ -4,10 +4,10 @@ use Rattle.job.proofs.Ways.{when-yes, when-no}
 use Rattle.job.proofs.Moved.{onward-same, frame-written, free-frame}
 use Rattle.job.proofs.perform.put_down.Goals as goal
 
-pub returns-then-not-is-free : goal.returns-then-not-is-free
-returns-then-not-is-free c = record {
+pub returns-then-not-is_free : goal.returns-then-not-is_free
+returns-then-not-is_free c = record {
   is = λ w cells text nodes scopes. when-no _ _ _ _ (free-frame c.args.frames.now c.args.registers.frames false
-      c.if-not-is-free.ensures) refl;
+      c.if-not-is_free.ensures) refl;
   stays = tt;
   spared = λ cells. (refl, refl);
 }
@@ -15,7 +15,7 @@ returns-then-not-is-free c = record {
 pub returns : goal.returns
 returns c = record {
   is = λ w cells text nodes scopes. when-yes _ _ _ _ (free-frame c.args.frames.now c.args.registers.frames true
-      c.if-not-is-free.ensures)
+      c.if-not-is_free.ensures)
       (onward-same (registers_of text nodes scopes c.args.registers)
       (frame-written text cells c.args.frames.now c.write.new.table c.args.registers.frames c.args.registers.frames
       c.args.frame c.write.ensures refl)

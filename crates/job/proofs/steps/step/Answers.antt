@@ -1,4 +1,4 @@
-use Rattle.std.proofs.Common.{◌-◌, refl, ap, ◌∙◌}
+use Rattle.std.proofs.Common.{refl, ap, ◌∙◌}
 use Rattle.language.specs.Step.{performing}
 use Rattle.job.specs.Maps.{stored, registers_of}
 use Rattle.job.specs.Rules.{program_with}

@@ -5,14 +5,14 @@ use Rattle.job.specs.Jobs.{plan_for, store_for}
 use Rattle.job.proofs.Standing.{advanced-is, advanced-on, ended_is, adds}
 use Rattle.job.proofs.jobs.Job.go_on.Goals as goal
 
-pub returns-in-default : goal.returns-in-default
-returns-in-default g c =
+pub returns-in_default : goal.returns-in_default
+returns-in_default g c =
     let job = c.args.self.now in
     let plan = plan_for job.pass in
     let m = g.P.Pantry.meaning c.args.pantry.now in
     let e = ended_is (program_of plan m) (store_for job.pass c.args.cells.now c.args.frames.now) job.pass.sheet.text.now
     job.pass.sheet.tree.now
-    job.scopes job.progress.status job.progress.steps c.args.allowance c.in-default.not-Running in
+    job.scopes job.progress.status job.progress.steps c.args.allowance c.in_default.not-Running in
     record {
       is = e;
       behind = record { cells_stay = refl; frames-stay = refl };
@@ -25,20 +25,20 @@ returns g c =
     let job = c.args.self.now in
     let plan = plan_for job.pass in
     let m = g.P.Pantry.meaning c.args.pantry.now in
-    let on = advanced-on c.program-of.ensures.text c.program-of.ensures.tree c.program-of.ensures.close m job.scopes
-    c.stepping-within-after.new.scopes
-    (within c.args.cells.now) (within c.stepping-within-after.new.cells) (within c.args.frames.now)
-    (within c.stepping-within-after.new.frames)
-    c.in-Running.registers job.progress.steps c.args.allowance c.stepping-within-after.result
-    c.stepping-within-after.ensures.is in
+    let on = advanced-on c.program_of.ensures.text c.program_of.ensures.tree c.program_of.ensures.close m job.scopes
+    c.stepping_within-after.new.scopes
+    (within c.args.cells.now) (within c.stepping_within-after.new.cells) (within c.args.frames.now)
+    (within c.stepping_within-after.new.frames)
+    c.in-Running.registers job.progress.steps c.args.allowance c.stepping_within-after.result
+    c.stepping_within-after.ensures.is in
     let e = advanced-is job.pass.sheet.text.now job.pass.sheet.tree.now job.pass.sheet.close m job.scopes
-    c.stepping-within-after.new.scopes
-    c.args.cells.now c.stepping-within-after.new.cells c.args.frames.now c.stepping-within-after.new.frames
-    c.in-Running.registers job.progress.status job.progress.steps c.args.allowance c.stepping-within-after.result
+    c.stepping_within-after.new.scopes
+    c.args.cells.now c.stepping_within-after.new.cells c.args.frames.now c.stepping_within-after.new.frames
+    c.in-Running.registers job.progress.status job.progress.steps c.args.allowance c.stepping_within-after.result
     c.in-Running.is on in
     record {
       is = e;
-      behind = c.stepping-within-after.ensures.behind;
+      behind = c.stepping_within-after.ensures.behind;
       adds = λ b. adds plan m c.args.allowance b _ _ e;
       pass = record { text = refl; tree = refl; close = refl };
     }

@@ -4,9 +4,9 @@ use Rattle.job.proofs.jobs.Job.open.Goals as goal
 
 pub returns : goal.returns
 returns c = record {
-  is = c.fresh.ensures.is c.blank-tables.new.cells c.blank-tables.new.frames ∙
-      ap (started (plan_for c.args.pass)) (c.blank-tables.ensures.is c.args.pass);
-  behind = c.blank-tables.ensures.behind;
+  is = c.fresh.ensures.is c.blank_tables.new.cells c.blank_tables.new.frames ∙
+      ap (started (plan_for c.args.pass)) (c.blank_tables.ensures.is c.args.pass);
+  behind = c.blank_tables.ensures.behind;
   pass = c.fresh.ensures.pass;
   safe = c.fresh.ensures.safe;
 }

@@ -6,7 +6,7 @@ use Rattle.grammar.specs.Plan.{node_of}
 use Rattle.grammar.specs.declared.tree.Node.TheVariants.{Expression}
 use Rattle.job.specs.Maps.{cell_of, scope_of}
 use Rattle.job.specs.Rules.{stocked, celled, scoped, on_qualified}
-use Rattle.job.proofs.rules.on_node.Goals as goal
+use Rattle.job.proofs.rule_choice.on_node.Goals as goal
 
 pub returns-in-From : goal.returns-in-From
 returns-in-From g c d w s r =

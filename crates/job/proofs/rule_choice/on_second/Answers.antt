@@ -4,7 +4,7 @@ use Rattle.grammar.specs.Plan.{node_of}
 use Rattle.grammar.specs.declared.tree.Node.TheVariants.{Expression}
 use Rattle.job.specs.Maps.{value_of}
 use Rattle.job.specs.Rules.{program_in}
-use Rattle.job.proofs.rules.on_second.Goals as goal
+use Rattle.job.proofs.rule_choice.on_second.Goals as goal
 
 pub returns-in-Apply : goal.returns-in-Apply
 returns-in-Apply g c text d close =

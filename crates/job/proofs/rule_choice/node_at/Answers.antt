@@ -3,7 +3,7 @@ use Rattle.language.specs.Tree.{no_node}
 use Rattle.grammar.specs.declared.tree.Node.TheVariants as node
 use Rattle.grammar.specs.Plan.{node_of}
 use Rattle.job.proofs.Places.{past, there}
-use Rattle.job.proofs.rules.node_at.Goals as goal
+use Rattle.job.proofs.rule_choice.node_at.Goals as goal
 
 pub returns-then-i-tree : goal.returns-then-i-tree
 returns-then-i-tree c text = past (node_of text) c.args.tree.now c.args.part no_node (omega arith)

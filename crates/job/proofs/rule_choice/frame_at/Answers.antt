@@ -3,7 +3,7 @@ use Rattle.language.specs.Machine.{blank_frame}
 use Rattle.job.specs.declared.tables.Frame.TheVariants as frame
 use Rattle.job.specs.Maps.{frame_of}
 use Rattle.job.proofs.Places.{past, there}
-use Rattle.job.proofs.rules.frame_at.Goals as goal
+use Rattle.job.proofs.rule_choice.frame_at.Goals as goal
 
 pub returns-then-i-frames : goal.returns-then-i-frames
 returns-then-i-frames c = past frame_of c.args.frames.now c.args.place blank_frame (omega arith)

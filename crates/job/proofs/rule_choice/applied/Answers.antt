@@ -2,7 +2,7 @@ use Rattle.std.proofs.Common.{sym, ap, ◌∙◌}
 use Rattle.language.specs.Step.{applying}
 use Rattle.job.specs.Maps.{value_of}
 use Rattle.job.specs.Rules.{program_in}
-use Rattle.job.proofs.rules.applied.Goals as goal
+use Rattle.job.proofs.rule_choice.applied.Goals as goal
 
 pub returns-in-PantryProcedure : goal.returns-in-PantryProcedure
 returns-in-PantryProcedure g c text d close =
