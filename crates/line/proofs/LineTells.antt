@@ -1,5 +1,5 @@
 -- The line tells the outcome.
-use Rattle.std.proofs.Common.{◌≡◌, ℕ, ◌^◌, ◌<◌, Bool, true, false, cond, eqb, ◌∷◌, ◌++◌, get_or, drop, ℤ, codes, decimal, sym, refl, ap, ◌∙◌, arith}
+use Rattle.std.proofs.Common.{◌≡◌, ℕ, ◌^◌, ◌<◌, true, false, cond, eqb, ◌∷◌, ◌++◌, get_or, drop, ℤ, codes, decimal, sym, refl, ap, ◌∙◌, arith}
 use mathlib.Core.Option.{some}
 use lib.Signed.{mag}
 use Rattle.std.specs.Fmt.{signed_decimal}

@@ -8,6 +8,6 @@ returns c =
     let bs = c.args.bytes.now in
     let at = c.args.at in
     let xs = c.args.buffer.now in
-    let copied = c.copy-from-slice.ensures.after in
+    let copied = c.copy_from_slice.ensures.after in
     rw c.if-measuring.false
     (put_mid-paste at ((at + length bs) - at) xs _ bs (length bs) copied (omega arith) refl ∙ paste_all xs at bs (length bs) refl)

@@ -32,6 +32,6 @@ returns-in-Hidden t c =
 
 pub returns-in-Arrow : goal.returns-in-Arrow
 returns-in-Arrow t c =
-    let end = then c.expanded-type-in-Arrow.ensures c.put-in-Arrow-3.ensures in
+    let end = then c.expanded_type-in-Arrow.ensures c.put-in-Arrow-3.ensures in
     rw (type-read c.args.text.now c.args.types.now c.args.i c.args.levels _ (omega arith) c.in-Arrow.ensures)
-    (then c.put-in-Arrow.ensures (then c.expanded-type.ensures (then c.put-in-Arrow-2.ensures end)))
+    (then c.put-in-Arrow.ensures (then c.expanded_type.ensures (then c.put-in-Arrow-2.ensures end)))

@@ -11,6 +11,6 @@ minus (negsuc k) n h e = rw e
 pub returns : goal.returns
 returns c =
     let low : c.args.value <ℤ pos 0 = omega (arith, ints) in
-    let size : c.unsigned-abs.result ≡ nat_abs c.args.value = grind (arith, to_z-of_z) in
-    rw (minus c.args.value c.unsigned-abs.result low size)
+    let size : c.unsigned_abs.result ≡ nat_abs c.args.value = grind (arith, to_z-of_z) in
+    rw (minus c.args.value c.unsigned_abs.result low size)
     (then c.put.ensures c.number-2.ensures)

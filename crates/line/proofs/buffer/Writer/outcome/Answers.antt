@@ -4,7 +4,7 @@ use Rattle.line.proofs.buffer.Writer.outcome.Goals as goal
 pub returns-in-Done : goal.returns-in-Done
 returns-in-Done g c =
     let end = then c.put-in-Done.ensures (then c.value.ensures c.steps.ensures) in
-    rw c.in-Done.is (then c.put.ensures (then c.expanded-type.ensures end))
+    rw c.in-Done.is (then c.put.ensures (then c.expanded_type.ensures end))
 
 pub returns-in-Going : goal.returns-in-Going
 returns-in-Going g c = rw c.in-Going.is (then c.put-in-Going.ensures c.steps-in-Going.ensures)
