@@ -6,7 +6,7 @@ use Rattle.pantry.specs.File.{fault}
 use Rattle.line.specs.declared.faults.TooShort.{TooShort}
 use Rattle.line.specs.declared.outcomes.Refusal.{Refusal}
 use Rattle.line.specs.Faults.{line_refusal}
-use Rattle.line.specs.Lines.{refusal_bytes, answer, written}
+use Rattle.line.specs.Lines.{refusal_bytes, answer}
 use Rattle.results.specs.declared.setups.Setup.{Setup}
 use Rattle.results.specs.Panel.{file_line, panel_line, printed, Wrote}
 

@@ -1,8 +1,8 @@
 -- Each stage on the way to the line, from what the calls of the layers promise.
-use Rattle.std.proofs.Common.{◌≡◌, ℕ, ◌+◌, ◌≤◌, min, List, [], map, length, take, replicate, Some, None, Ok, Err, Result, sym, refl, ap, ◌∙◌, subst, arith, length-take}
+use Rattle.std.proofs.Common.{◌≡◌, ℕ, ◌+◌, ◌≤◌, List, [], map, length, take, replicate, Ok, Err, Result, sym, refl, ap, ◌∙◌, subst, arith, length-take}
 use lib.ListN.{length-replicate, length-map}
 use Rattle.language.specs.Tree.{Plan}
-use Rattle.language.specs.Pantry.{Stock, Pantry, stock_of}
+use Rattle.language.specs.Pantry.{Pantry, stock_of}
 use Rattle.language.specs.Typing.{ExpandedType, stock_types}
 use Rattle.language.specs.Machine as machine
 use Rattle.language.specs.Machine.{blank_cell, blank_frame, store_of}
@@ -38,7 +38,7 @@ use Rattle.job.specs.Jobs.{plan_for, store_for, SamePass}
 use Rattle.line.specs.declared.faults.TooShort.{TooShort}
 use Rattle.line.specs.Faults.{layer_of, grammar_refusal, check_refusal}
 use Rattle.line.specs.Lines.{refusal_bytes}
-use Rattle.results.specs.Panel.{counted, answer_on, ran_line, checked_line, text_refusal, read_line, Wrote}
+use Rattle.results.specs.Panel.{counted, answer_on, ran_line, checked_line, read_line, Wrote}
 
 -- the same line under another telling
 pub wrote_as : {cs bs : List ℕ} {r : Result ℕ TooShort} {xs ys : List ℕ} → cs ≡ bs → Wrote cs r xs ys → Wrote bs r xs ys

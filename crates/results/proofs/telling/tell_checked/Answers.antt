@@ -1,4 +1,4 @@
-use Rattle.std.proofs.Common.{◌≡◌, ℕ, ◌-◌, ◌≤◌, true, List, length, take, sym, ap, ◌∙◌, subst, arith}
+use Rattle.std.proofs.Common.{◌≡◌, ℕ, ◌-◌, ◌≤◌, true, length, take, sym, ap, ◌∙◌, subst, arith}
 use Rattle.language.specs.Pantry.{Stock, stock_of}
 use Rattle.checker.specs.Stocks.{stock_in}
 use Rattle.checker.specs.Passes.{passes_with}
@@ -14,11 +14,11 @@ pub pass-pass-requires : goal.pass-pass-requires
 pass-pass-requires g c =
     let p = g.P.Pantry.meaning c.args.pantry.now in
     let few : length p ≤ 64 = (g.P.Pantry.lawful c.args.pantry.now).few in
-    let n = c.copy-entries-count.result in
-    let all : length p ≤ n = omega (arith, few, c.copy-entries-count.ensures.count) in
+    let n = c.copy_entries-count.result in
+    let all : length p ≤ n = omega (arith, few, c.copy_entries-count.ensures.count) in
     let z : n - 0 ≡ n = omega arith in
-    let stock : stock_in (take (n - 0) c.copy-entries-count.new.table) ≡ stock_of p =
-    ap (λ (k : ℕ). stock_in (take k c.copy-entries-count.new.table)) z ∙ all-copied p n _ all c.copy-entries-count.ensures.copied in
+    let stock : stock_in (take (n - 0) c.copy_entries-count.new.table) ≡ stock_of p =
+    ap (λ (k : ℕ). stock_in (take k c.copy_entries-count.new.table)) z ∙ all-copied p n _ all c.copy_entries-count.ensures.copied in
     subst (λ (s : Stock). passes_with s c.args.sheet.text.now c.check.new.types c.in-Ok.number ≡ true) (sym stock) c.in-Ok.ensures.promised
 
 pub returns-in-Ok : goal.returns-in-Ok
@@ -36,4 +36,4 @@ returns-in-Ok g c =
     let told = pass-line c.pass-pass.result p n m a text nodes close types k e.text e.tree e.close e.types e.number in
     let passed = passed-line text _ _ _ types c.check.new.slots p (plan_of text nodes close) n m a (sheet_in text) (counted (length c.args.types.now))
     (counted (length c.args.slots.now)) k (type_told text types k) c.in-Ok.ensures.answered c.in-Ok.ensures.judged.0 in
-    wrote_as (told ∙ sym passed) c.tell-run.ensures
+    wrote_as (told ∙ sym passed) c.tell_run.ensures

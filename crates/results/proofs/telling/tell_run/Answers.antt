@@ -1,5 +1,4 @@
-use Rattle.std.proofs.Common.{◌≡◌, sym, ap, ◌∙◌}
-use Rattle.language.specs.Job.{Answer}
+use Rattle.std.proofs.Common.{ap, ◌∙◌}
 use Rattle.typing.specs.Told.{type_told}
 use Rattle.job.specs.Jobs.{moment_of}
 use Rattle.line.specs.declared.outcomes.Outcome.{Outcome}
@@ -17,6 +16,6 @@ returns g c =
     (moment_of c.open-job.result c.open-job.new.cells c.open-job.new.frames) (moment_of c.advance.new.self c.advance.new.cells c.advance.new.frames)
     c.open-job.ensures.is c.advance.ensures.is) in
     record {
-      answers = c.write-line.ensures.answer ∙ ap (λ (z : Outcome). answer (line_of p t z) c.args.buffer.now) o;
-      leaves = c.write-line.ensures.written ∙ ap (λ (z : Outcome). written (line_of p t z) c.args.buffer.now) o;
+      answers = c.write_line.ensures.answer ∙ ap (λ (z : Outcome). answer (line_of p t z) c.args.buffer.now) o;
+      leaves = c.write_line.ensures.written ∙ ap (λ (z : Outcome). written (line_of p t z) c.args.buffer.now) o;
     }

@@ -12,4 +12,4 @@ returns-in-Ok g c =
     let e = c.sheet.ensures in
     wrote_as (sheet-line p c.args.text.now (length c.args.types.now) (length c.args.slots.now) (length c.args.cells.now) (length c.args.frames.now)
     c.args.allowance c.args.tree.now c.read.new.tree n c.in-Ok.close s.text.now s.tree.now s.close h c.in-Ok.ensures.reads
-    c.in-Ok.ensures.promises e.text e.tree e.close) c.tell-checked.ensures
+    c.in-Ok.ensures.promises e.text e.tree e.close) c.tell_checked.ensures
