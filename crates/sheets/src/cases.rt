@@ -1,4 +1,4 @@
-use crate::words::{byte_of, number_of, split};
+use crate::lines::{byte_of, number_of, split};
 use anyhow::anyhow;
 use pantry::loading::EMPTY_FILE;
 use results::Setup;
@@ -25,29 +25,25 @@ impl Case {
 
     // One line of the data file that is about a sheet.
     pub fn change(&mut self, heap: Global, word: &[u8], argument: &[u8]) -> anyhow::Result<()> {
-        if word == b"sheet" {
-            *self = Case::new(heap)?;
-            self.name.extend_from_slice(argument)?;
-            return Ok(());
+        match word {
+            b"sheet" => {
+                *self = Case::new(heap)?;
+                self.name.extend_from_slice(argument)?;
+                Ok(())
+            }
+            b"text" => {
+                self.text.extend_from_slice(argument)?;
+                Ok(())
+            }
+            b"bytes" => append(&mut self.text, argument),
+            b"items" => {
+                self.items.clear();
+                append(&mut self.items, argument)
+            }
+            b"again" => repeat(&mut self.text, argument),
+            b"set" => set(&mut self.setup, argument),
+            _ => Err(anyhow!("a line begins with an unknown word")),
         }
-        if word == b"text" {
-            self.text.extend_from_slice(argument)?;
-            return Ok(());
-        }
-        if word == b"bytes" {
-            return append(&mut self.text, argument);
-        }
-        if word == b"items" {
-            self.items.clear();
-            return append(&mut self.items, argument);
-        }
-        if word == b"again" {
-            return repeat(&mut self.text, argument);
-        }
-        if word == b"set" {
-            return set(&mut self.setup, argument);
-        }
-        Err(anyhow!("a line begins with an unknown word"))
     }
 }
 
@@ -83,22 +79,15 @@ fn set(setup: &mut Setup, argument: &[u8]) -> anyhow::Result<()> {
         return Err(anyhow!("a number is not told in digits"));
     };
     let places = n as usize;
-    if key == b"allowance" {
-        setup.allowance = n;
-    } else if key == b"tree" {
-        setup.tree = places;
-    } else if key == b"types" {
-        setup.types = places;
-    } else if key == b"scope" {
-        setup.scope = places;
-    } else if key == b"cells" {
-        setup.cells = places;
-    } else if key == b"frames" {
-        setup.frames = places;
-    } else if key == b"buffer" {
-        setup.buffer = places;
-    } else {
-        return Err(anyhow!("an unknown thing is set"));
+    match key {
+        b"allowance" => setup.allowance = n,
+        b"tree" => setup.tree = places,
+        b"types" => setup.types = places,
+        b"scope" => setup.scope = places,
+        b"cells" => setup.cells = places,
+        b"frames" => setup.frames = places,
+        b"buffer" => setup.buffer = places,
+        _ => return Err(anyhow!("an unknown thing is set")),
     }
     Ok(())
 }

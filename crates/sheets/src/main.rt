@@ -2,35 +2,35 @@
 #![tactic(auto)]
 
 mod cases;
-mod words;
+mod lines;
 
 use cases::Case;
+use lines::{line_at, split};
 use std::fs;
 use std::io::Write;
-use words::{line_at, split};
 
 // What one line of the data file says.
 fn follow(rt: &HostRuntime, case: &mut Case, line: &[u8]) -> anyhow::Result<()> {
     let (word, argument) = split(line);
-    if word.is_empty() || word[0] == b'#' {
-        return Ok(());
+    match word {
+        [] | [b'#', ..] => Ok(()),
+        b"group" => {
+            let mut out = rt.stdout();
+            out.write_all(b"== ")?;
+            out.write_all(argument)?;
+            out.write_all(b"\n")?;
+            Ok(())
+        }
+        b"run" => {
+            let line = results::line(rt.alloc(), &case.items, &case.text, case.setup)?;
+            let mut out = rt.stdout();
+            out.write_all(&case.name)?;
+            out.write_all(b": ")?;
+            out.write_all(&line)?;
+            Ok(())
+        }
+        _ => case.change(rt.alloc(), word, argument),
     }
-    if word == b"group" {
-        let mut out = rt.stdout();
-        out.write_all(b"== ")?;
-        out.write_all(argument)?;
-        out.write_all(b"\n")?;
-        return Ok(());
-    }
-    if word == b"run" {
-        let line = results::line(rt.alloc(), &case.items, &case.text, case.setup)?;
-        let mut out = rt.stdout();
-        out.write_all(&case.name)?;
-        out.write_all(b": ")?;
-        out.write_all(&line)?;
-        return Ok(());
-    }
-    case.change(rt.alloc(), word, argument)
 }
 
 // All lines of the data file, in order.

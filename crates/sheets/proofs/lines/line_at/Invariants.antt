@@ -1,5 +1,5 @@
 use Rattle.std.proofs.Common.{◌-◌, ◌≤◌, length}
-use Rattle.sheets.proofs.words.line_at.Given as goal
+use Rattle.sheets.proofs.lines.line_at.Given as goal
 
 abbrev pub invariant-loop-end : goal.invariant-loop-end
 invariant-loop-end l = (l.at ≤ l.end) × (l.end ≤ length l.bytes)
