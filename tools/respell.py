@@ -6,6 +6,8 @@ usage: python3 tools/respell.py      at the top of the repository, once, right a
 - A name in camel case becomes one in snake case: `checkModules` is `check_modules`, `innerE` is `inner_e`.
 - A fact with a dash in its name becomes one in upper camel case: `Division-law` is `DivisionLaw`.
 - A lemma or a field whose name would then be that of a definition gets its dash back (APART).
+- A field, a constructor or a lemma of specs/ with dashes in its name becomes one in snake case (`names-fit` is `names_fit`), or gets another
+  name where that one is a definition's (FIELDS).
 - The crate `check` has the name of a library of the kit, and becomes `checker`.
 
 Functions and types of src/ keep their names: no name of theirs is in camel case with a small first letter.
@@ -30,6 +32,21 @@ APART = [
     ("crates/words/proofs/Stands.antt", "is_digit", "is-digit"),
     ("crates/words/proofs/Told.antt", "is_digit", "is-digit"),
 ]
+# fields whose name in snake case is that of what they speak of
+FIELDS = {
+    "in-range": "figures_in_range",
+    "inner-first": "inner_parts_first",
+    "no-items": "no_items_counted",
+    "other-sheet": "other_sheet_done",
+    "plus-true": "plus_true_untyped",
+    "salt-plus-one": "salt_plus_one_untyped",
+    "salt-sheet": "salt_sheet_done",
+    "salt-zero": "salt_zero_done",
+    "allergen-entry": "allergen_entry_lawful",
+    "items-entry": "items_entry_lawful",
+    "kcal-entry": "kcal_entry_lawful",
+}
+DECLARED = re.compile(r"\s*(?:(?:unfoldable|abbrev|pub|data|record)\s+)*([^\s:{}()=|,;λ]+)(?:\s+[({][^)}]*[)}])*\s+:\s")
 LETTER = r"[\w'′\-₀-₉ℕℤ]"
 WORD = re.compile(r"(?<![\w'′\-₀-₉ℕℤ])[A-Za-z_]" + LETTER + "*")
 CAMEL = re.compile(r"[a-z][a-z0-9_]*[A-Z]|.*-[a-z0-9]*[a-z][A-Z]")
@@ -95,6 +112,20 @@ def rename_check():
     os.rename("crates/check", "crates/checker")
 
 
+def dashed():
+    """the names with dashes that specs/ declare, with their new ones"""
+    names = {}
+    for path in files("crates", (".antt",)):
+        if "/specs/" not in path:
+            continue
+        with open(path, encoding="utf-8") as f:
+            for line in f:
+                m = DECLARED.match(line.split("--")[0])
+                if m and "-" in m.group(1) and m.group(1)[0].islower():
+                    names[m.group(1)] = FIELDS.get(m.group(1), m.group(1).replace("-", "_"))
+    return names
+
+
 def main():
     for top, old, new in APART:
         for path in files(top, (".antt",)):
@@ -104,6 +135,9 @@ def main():
     for path in files("crates", (".edit",)):
         # an edit's text is not turned by port.py: a field stands tight behind its value
         turn_file(path, lambda t: re.sub(r"\((\w+(?:\.\w+)+)\)", r"\1", re.sub(r"(?<=\w) \.(?=[a-z])", ".", t)) if "file: specs/" in t else t)
+    names = dashed()
+    for path in files("crates", (".rt", ".antt", ".edit")):
+        turn_file(path, lambda t: outside_strings(t, lambda part: WORD.sub(lambda m: names.get(m.group(0), m.group(0)), part)))
     if os.path.isdir("crates/check"):
         rename_check()
 

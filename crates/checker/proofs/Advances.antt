@@ -21,7 +21,7 @@ use Rattle.typing.specs.Stands.{Stands, Scoped, no_name}
 use Rattle.typing.proofs.Simulation.{On, Goes, ExpHere, exp-here}
 use Rattle.typing.proofs.Alike.{Tells, Alike, alike-bad, alike-good}
 use Rattle.checker.specs.Items.{empty_at, module_n, NodeIn, AllIn, NodeHolds}
-use Rattle.checker.specs.Modules.{interface_at, Left, Declared, more-declared}
+use Rattle.checker.specs.Modules.{interface_at, Left, Declared, more_declared}
 use Rattle.checker.specs.Sheets.{state_in, Ran, Between, AfterModule, AfterModules, ClosedBy, AfterClosing, check_nodes}
 use Rattle.checker.proofs.Declares.{declared-kept}
 use Rattle.checker.proofs.ItemsGo.{all-each}
@@ -45,7 +45,7 @@ module _ (w : Given) (tp sp : ℕ) (base : List TypeEntry) (types : List TypeEnt
     int_is = b.seen.int_is;
     bool_is = b.seen.bool_is;
     stock = b.seen.stock;
-    used = b.seen.used-is;
+    used = b.seen.used_is;
     low = b.seen.low;
     modules = b.seen.modules;
     names = rw b.seen.none no_name;
@@ -73,11 +73,11 @@ module _ (w : Given) (tp sp : ℕ) (base : List TypeEntry) (types : List TypeEnt
             int_is = t.int_is;
             bool_is = t.bool_is;
             stock = t.stock;
-            used-is = t.used;
+            used_is = t.used;
             low = t.low;
             none = t.none;
             modules = t.modules;
-            declared = subst (Declared text us slots' g.used) (sym t.modules-are) (more-declared _ d t.own-declared);
+            declared = subst (Declared text us slots' g.used) (sym t.modules_are) (more_declared _ d t.own_declared);
           };
         },
       )
@@ -99,7 +99,7 @@ module _ (w : Given) (tp sp : ℕ) (base : List TypeEntry) (types : List TypeEnt
       ap (λ (v : List TypeEntry). state_in v s'.count s'.slots) (sym e.1) ∙ ap (λ (v : List Slot). state_in types' s'.count v) (sym e.2) in
       record {
         number = k;
-        types-then = s'.count;
+        types_then = s'.count;
         result = e.0;
         tells = t;
         stands = subst (λ (v : State). Stands w.text.now tp sp base v us) x n.stands;
@@ -119,7 +119,7 @@ module _ (w : Given) (tp sp : ℕ) (base : List TypeEntry) (types : List TypeEnt
         int_is = b.seen.int_is;
         bool_is = b.seen.bool_is;
         stock = b.seen.stock;
-        used = b.seen.used-is;
+        used = b.seen.used_is;
         low = b.seen.low;
         modules = b.seen.modules;
         names = rw b.seen.none no_name;

@@ -46,7 +46,7 @@ module _ (stock : Stock) (text : List ℕ) (types : List TypeEntry) (slots : Lis
       let formed-there : member a (formed stock (plain (sheet_in text))) ≡ true =
       sym ((distinct-types stock (plain (sheet_in text))).1 a) ∙ (ap (member a) (sym s.1) ∙ there) in
       let shallow = member-shallow tp sp (formed stock (plain (sheet_in text))) a w.shallow formed-there in
-      let few : length us ≤ 65535 = (let q = w.types-fit in let y = ap length s.1 in omega arith) in
+      let few : length us ≤ 65535 = (let q = w.types_fit in let y = ap length s.1 in omega arith) in
       let told : type_told text types' k ≡ a = ap (type_told text types') (sym z) ∙ table-told text types' us h.number a few h.rows h.tells shallow in
       record { typed = subst (Typed stock (sheet_in text)) (sym told) s.0; within = w }
 

@@ -12,10 +12,10 @@ use Rattle.rules.specs.Checking.{declare, declare_all}
 use Rattle.typing.specs.declared.types.TypeEntry.{TypeEntry}
 use Rattle.typing.specs.declared.types.Slot.{Slot}
 use Rattle.typing.specs.Tables.{State}
-use Rattle.typing.specs.Stands.{Holding, no_name, type-name, value-name}
+use Rattle.typing.specs.Stands.{Holding, no_name, type_name, value_name}
 use Rattle.typing.proofs.Alike.{More, Tie, Next, Alike, alike-bad, alike-good, alike_from}
 use Rattle.typing.proofs.Scopes.{holding-kept}
-use Rattle.checker.specs.Modules.{Declared, none-declared, more-declared}
+use Rattle.checker.specs.Modules.{Declared, none_declared, more_declared}
 
 -- one check, then the next, where the answer of the first by the rules is told
 module _ (text : List ℕ) (base : List TypeEntry) (tp sp : ℕ) where
@@ -74,12 +74,12 @@ module _ (tp sp : ℕ) where
 module _ {text : List ℕ} {ts : List ExpandedType} {slots : List Slot} where
   holding-low : {first u t v : ℕ} {ms : List Made} → Holding text ts slots first u t v ms → first ≤ u
   holding-low no_name = omega arith
-  holding-low (type-name p q r o h) = omega (arith, holding-low h)
-  holding-low (value-name p q r o h) = omega (arith, holding-low h)
+  holding-low (type_name p q r o h) = omega (arith, holding-low h)
+  holding-low (value_name p q r o h) = omega (arith, holding-low h)
 
   -- declarations stay while their places and the types stay
   pub declared-kept : {u : ℕ} {js : Interfaces} (n : ℕ) (us : List ExpandedType) (rs : List Slot) → u ≤ n → take n rs ≡ take n slots → More ts us →
       Declared text ts slots u js → Declared text us rs u js
-  declared-kept n us rs l e m none-declared = none-declared
-  declared-kept n us rs l e m (more-declared x d h) =
-      more-declared x (declared-kept n us rs (omega (arith, holding-low h)) e m d) (holding-kept n us rs l e m h)
+  declared-kept n us rs l e m none_declared = none_declared
+  declared-kept n us rs l e m (more_declared x d h) =
+      more_declared x (declared-kept n us rs (omega (arith, holding-low h)) e m d) (holding-kept n us rs l e m h)

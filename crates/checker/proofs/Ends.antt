@@ -74,15 +74,15 @@ module _ (text : List ℕ) (kinds : Stock) (sheet : Sheet) (types : List TypeEnt
         result = refl;
         tells = subst (λ (v : ℕ). slice_get us v ≡ Some b) x a.tells;
         rows = a.stands.rows;
-        types-rest = a.stands.rest;
+        types_rest = a.stands.rest;
         declarations = record {
           scope = d.scope;
           told = d.told;
-          came-to = d.came-to;
-          used-are = d.used-are;
+          came_to = d.came_to;
+          used_are = d.used_are;
           declared = declared-kept u us slots' (omega arith) f (λ i a e. e) d.declared;
         };
-        slots-rest = p;
+        slots_rest = p;
       }
 
   pub ends-good : (k u : ℕ) (t : List TypeEntry) (s slots' : List Slot) →

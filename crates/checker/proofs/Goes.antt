@@ -37,20 +37,20 @@ module _ (text : List ℕ) (tree : List Node) (start end : ℕ) (name : Span) (f
       let z : start + (here.size + 1) ≡ end + 1 = omega arith in
       drop-drop (here.size + 1) start tree ∙ ap (λ (n : ℕ). drop n tree) z
 
-  modules-are : modules_of text tree (drop start tree) ≡
+  modules_are : modules_of text tree (drop start tree) ≡
       section_of text tree here.at name (take (end - start) (drop start tree)) ∷ modules_of text tree (drop (end + 1) tree)
-  modules-are =
-      here.modules-are ∙ (ap (λ (n : ℕ). section_of text tree here.at name (take n (drop start tree)) ∷ modules_of text tree (drop (here.size + 1) (drop start tree))) size_is ∙
+  modules_are =
+      here.modules_are ∙ (ap (λ (n : ℕ). section_of text tree here.at name (take n (drop start tree)) ∷ modules_of text tree (drop (here.size + 1) (drop start tree))) size_is ∙
       ap (λ (ns : List Node). section_of text tree here.at name (take (end - start) (drop start tree)) ∷ modules_of text tree ns) behind)
 
   pub one_more : count (modules_of text tree (drop start tree)) ≡ count (modules_of text tree (drop (end + 1) tree)) + 1
-  one_more = ap count modules-are
+  one_more = ap count modules_are
 
   -- by the rules: this module, then the rest
   pub this-first : (tp sp : ℕ) (h : rules.Scope) (ts : List ExpandedType) →
       check_modules tp sp (modules_of text tree (drop start tree)) h ts ≡
       after (check_nodes text tree tp sp name (take (end - start) (drop start tree)) h ts) (check_modules tp sp (modules_of text tree (drop (end + 1) tree)))
-  this-first tp sp h ts = ap (λ (ms : List Module). check_modules tp sp ms h ts) modules-are
+  this-first tp sp h ts = ap (λ (ms : List Module). check_modules tp sp ms h ts) modules_are
 
 module _ (text : List ℕ) (tree : List Node) (base : List TypeEntry) (entries : List Known) (tp sp : ℕ) (h₀ : rules.Scope) (ts₀ : List ExpandedType) where
   -- what a step promises, wherever it begins

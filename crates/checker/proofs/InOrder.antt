@@ -37,5 +37,5 @@ kept_trans s t u a b = record {
   types_same = b.types_same ∙ a.types_same;
   slots_same = b.slots_same ∙ a.slots_same;
   types_long = b.types_long ∙ a.types_long;
-  slots-long = b.slots-long ∙ a.slots-long;
+  slots_long = b.slots_long ∙ a.slots_long;
 }

@@ -18,7 +18,7 @@ use Rattle.typing.specs.declared.types.TypeEntry.{TypeEntry}
 use Rattle.typing.specs.declared.types.Known.{Known}
 use Rattle.typing.specs.declared.tables.Tables.{Tables}
 use Rattle.typing.specs.Tables.{State, state_of, Gave}
-use Rattle.typing.specs.Stands.{Stands, Stocks, stocks-none, stocks-one}
+use Rattle.typing.specs.Stands.{Stands, Stocks, stocks_none, stocks_one}
 use Rattle.typing.proofs.Alike.{Tells, Alike, alike-bad, alike-good}
 use Rattle.typing.proofs.Rows.{member-at, there-alike, arrow-alike}
 use Rattle.typing.proofs.Scopes.{stocks-kept}
@@ -28,8 +28,8 @@ use Rattle.checker.proofs.InOrder.{gave-good, gave-bad}
 
 stocks-more : {ts : List ExpandedType} {es : List Known} {c : Context} (e : Known) (x : Name) (a : ExpandedType) → Stocks ts es c → e.name.now ≡ x → slice_get ts e.of ≡ Some a →
     Stocks ts (es ++ (e ∷ [])) (c ++ (bind x a ∷ []))
-stocks-more e x a stocks-none p q = stocks-one p q stocks-none
-stocks-more e x a (stocks-one p' q' h) p q = stocks-one p' q' (stocks-more e x a h p q)
+stocks-more e x a stocks_none p q = stocks_one p q stocks_none
+stocks-more e x a (stocks_one p' q' h) p q = stocks_one p' q' (stocks-more e x a h p q)
 
 stock-more : (es : List Entry) (e : Entry) → stock_types (stock_in (es ++ (e ∷ []))) ≡ stock_types (stock_in es) ++ (bind e.name.now (kind_type (kind_of e.kind)) ∷ [])
 stock-more [] e = refl
@@ -110,4 +110,4 @@ module _ (text : List ℕ) (base : List TypeEntry) (tp sp : ℕ) where
 
   pub entering-start : (entries : List Entry) (ts : List ExpandedType) (known : List Known) (s : State) → Begun text base tp sp s ts →
       Entering text base tp sp entries ts 0 known s
-  entering-start entries ts known s b = record { told = ts; begun = b; stocks = stocks-none; rest = refl }
+  entering-start entries ts known s b = record { told = ts; begun = b; stocks = stocks_none; rest = refl }

@@ -15,9 +15,9 @@ use Rattle.typing.specs.declared.types.TypeEntry.{TypeEntry}
 use Rattle.typing.specs.declared.types.TypeEntry.TheVariants as entry
 use Rattle.typing.specs.declared.types.Slot.{Slot}
 use Rattle.typing.specs.declared.types.Slot.TheVariants as slot
-use Rattle.typing.specs.Stands.{Rows, rows_none, rows_more, Holding, no_name, type-name, value-name}
+use Rattle.typing.specs.Stands.{Rows, rows_none, rows_more, Holding, no_name, type_name, value_name}
 use Rattle.checker.specs.Sheets.{places}
-use Rattle.checker.specs.Modules.{Declared, none-declared, more-declared}
+use Rattle.checker.specs.Modules.{Declared, none_declared, more_declared}
 use Rattle.checker.specs.Runs.{Ends, EndsFor, blank_types, blank_slots}
 use Rattle.checker.specs.Laws.{blanked}
 use Rattle.checker.proofs.Declares.{declared-kept}
@@ -69,12 +69,12 @@ elem-within (y ∷ xs) (suc k) x e = omega (arith, elem-within xs k x e)
 module _ {text : List ℕ} {ts : List ExpandedType} {slots : List Slot} where
   holding-fits : {first u t v : ℕ} {ms : List Made} → first ≤ length slots → Holding text ts slots first u t v ms → u ≤ length slots
   holding-fits l no_name = l
-  holding-fits l (type-name {u = u} p q r o h) = omega (arith, elem-within slots u _ p)
-  holding-fits l (value-name {u = u} p q r o h) = omega (arith, elem-within slots u _ p)
+  holding-fits l (type_name {u = u} p q r o h) = omega (arith, elem-within slots u _ p)
+  holding-fits l (value_name {u = u} p q r o h) = omega (arith, elem-within slots u _ p)
 
   declared-fits : {u : ℕ} {js : Interfaces} → Declared text ts slots u js → u ≤ length slots
-  declared-fits none-declared = omega arith
-  declared-fits (more-declared x d h) = holding-fits (declared-fits d) h
+  declared-fits none_declared = omega arith
+  declared-fits (more_declared x d h) = holding-fits (declared-fits d) h
 
 module _ (text : List ℕ) (stock : Stock) (sheet : Sheet) (types types' : List TypeEntry) (slots slots' : List Slot) (n m : ℕ)
     (et : n ≡ min (length types) 65535) (es : m ≡ min (length slots) 65535) (lt : length types' ≡ n) (ls : length slots' ≡ m) where
@@ -105,15 +105,15 @@ module _ (text : List ℕ) (stock : Stock) (sheet : Sheet) (types types' : List 
         result = h.result;
         tells = h.tells;
         rows = subst (λ (zs : List TypeEntry). Rows text us zs us) (sym (take-append-le (length us) types' _ long)) h.rows;
-        types-rest = rest-whole entry.Blank types types' n et lt (length us) long h.types-rest;
+        types_rest = rest-whole entry.Blank types types' n et lt (length us) long h.types_rest;
         declarations = record {
           scope = d.scope;
           told = d.told;
-          came-to = d.came-to;
-          used-are = d.used-are;
+          came_to = d.came_to;
+          used_are = d.used_are;
           declared = declared-kept h.used us all_slots (omega arith) (take-append-le h.used slots' _ fits) (λ i a e. e) d.declared;
         };
-        slots-rest = rest-whole slot.Blank slots slots' m es ls h.used fits h.slots-rest;
+        slots_rest = rest-whole slot.Blank slots slots' m es ls h.used fits h.slots_rest;
       }
 
   pub told-whole : (t : Sheet) → sheet ≡ t → (r : Result ℕ CheckFault) →

@@ -32,13 +32,13 @@ use Rattle.typing.specs.declared.types.Scope.{Scope}
 use Rattle.typing.specs.declared.types.Interface.{Interface}
 use Rattle.typing.specs.declared.types.Given.{Given}
 use Rattle.typing.specs.Tables.{State, Check, tables, expand_n}
-use Rattle.typing.specs.Stands.{Stands, Holding, no_name, type-name, value-name, declares as declared, AllDeclare, none-declares, one-declares, Scoped}
+use Rattle.typing.specs.Stands.{Stands, Holding, no_name, type_name, value_name, declares as declared, AllDeclare, none_declares, one_declares, Scoped}
 use Rattle.typing.proofs.Alike.{More, Nothing, Alike, alike-good, next-refl, alike-less, then-alike, want-alike, known_alike, Both, neither, each}
 use Rattle.typing.proofs.Rows.{same-tells}
 use Rattle.typing.proofs.Scopes.{elem-front, scoped-next, BothDeclare, neither-declares, both-declare, interface-both}
 use Rattle.typing.proofs.Simulation.{On, Goes, type-here}
 use Rattle.checker.specs.Items.{or_else, definition, definition_n, item_tables, match_item, on_item, all_items, empty_at, body_n, no_interface, is_new, module_n, NodeHolds}
-use Rattle.checker.specs.Modules.{with_declaration, declarations_of, definitions_of, Ahead, no_more, type-ahead, value-ahead, interface_at, Left}
+use Rattle.checker.specs.Modules.{with_declaration, declarations_of, definitions_of, Ahead, no_more, type_ahead, value_ahead, interface_at, Left}
 use Rattle.checker.proofs.Declares.{then-with, modules-stay}
 use Rattle.checker.proofs.ItemsGo.{Each, each_none, each_more, on-all, declare-all-goes, define-all-goes}
 
@@ -57,22 +57,22 @@ drop-take (x ∷ xs) (suc u) = drop-take xs u
 module _ {text : List ℕ} {ts : List ExpandedType} {slots : List Slot} {used : ℕ} where
   ahead-low : {k : ℕ} {ms : List Made} → Ahead text ts slots used k ms → k ≤ used
   ahead-low no_more = omega arith
-  ahead-low (type-ahead p q r h) = omega (arith, ahead-low h)
-  ahead-low (value-ahead p q r h) = omega (arith, ahead-low h)
+  ahead-low (type_ahead p q r h) = omega (arith, ahead-low h)
+  ahead-low (value_ahead p q r h) = omega (arith, ahead-low h)
 
   ahead-kept : {k : ℕ} {ms : List Made} (us : List ExpandedType) (rs : List Slot) → take used rs ≡ take used slots → More ts us →
       Ahead text ts slots used k ms → Ahead text us rs used k ms
   ahead-kept us rs e m no_more = no_more
-  ahead-kept us rs e m (type-ahead {k = k} p q r h) =
-      type-ahead (elem-front used slots rs k (omega (arith, ahead-low h)) e ∙ p) q (m _ _ r) (ahead-kept us rs e m h)
-  ahead-kept us rs e m (value-ahead {k = k} p q r h) =
-      value-ahead (elem-front used slots rs k (omega (arith, ahead-low h)) e ∙ p) q (m _ _ r) (ahead-kept us rs e m h)
+  ahead-kept us rs e m (type_ahead {k = k} p q r h) =
+      type_ahead (elem-front used slots rs k (omega (arith, ahead-low h)) e ∙ p) q (m _ _ r) (ahead-kept us rs e m h)
+  ahead-kept us rs e m (value_ahead {k = k} p q r h) =
+      value_ahead (elem-front used slots rs k (omega (arith, ahead-low h)) e ∙ p) q (m _ _ r) (ahead-kept us rs e m h)
 
   -- the names of a scope, in the order of their places
   holding-ahead : {first u t v : ℕ} {later ms : List Made} → Holding text ts slots first u t v later → Ahead text ts slots used u ms → Ahead text ts slots used first (onto later ms)
   holding-ahead no_name h = h
-  holding-ahead (type-name p q r o n) h = holding-ahead n (type-ahead p q r h)
-  holding-ahead (value-name p q r o n) h = holding-ahead n (value-ahead p q r h)
+  holding-ahead (type_name p q r o n) h = holding-ahead n (type_ahead p q r h)
+  holding-ahead (value_name p q r o n) h = holding-ahead n (value_ahead p q r h)
 
 -- what the search for a definition gives
 abbrev Supplies : List ℕ → List ExpandedType → List Slot → ℕ → ℕ × ℕ → ExpandedType × List Made → Type 0
@@ -87,14 +87,14 @@ module _ {text : List ℕ} {ts : List ExpandedType} {slots : List Slot} {used : 
   supplied-both : {k : ℕ} {ms : List Made} (of_type : Bool) (x : Name) → Ahead text ts slots used k ms →
       Both (Supplies text ts slots used) (definition text of_type x k (drop k (take used slots))) (supplied_by of_type x ms)
   supplied-both of_type x no_more = rw (drop-take slots used) neither
-  supplied-both true x (type-ahead {k = k} {b = b} {x = y} {a = a} {ms = ms} p q r h) =
+  supplied-both true x (type_ahead {k = k} {b = b} {x = y} {a = a} {ms = ms} p q r h) =
       rw (drop-elem slots k used (slot.OfType b) (omega (arith, ahead-low h)) p, q)
       (this-or (same_name y x) (b.value, k + 1) (a, ms) _ _ (r, subst (λ (n : ℕ). Ahead text ts slots used n ms) (sym (add-one k)) h) (supplied-both true x h))
-  supplied-both false x (type-ahead {k = k} {b = b} p q r h) =
+  supplied-both false x (type_ahead {k = k} {b = b} p q r h) =
       rw (drop-elem slots k used (slot.OfType b) (omega (arith, ahead-low h)) p) (supplied-both false x h)
-  supplied-both true x (value-ahead {k = k} {b = b} p q r h) =
+  supplied-both true x (value_ahead {k = k} {b = b} p q r h) =
       rw (drop-elem slots k used (slot.OfValue b) (omega (arith, ahead-low h)) p) (supplied-both true x h)
-  supplied-both false x (value-ahead {k = k} {b = b} {x = y} {a = a} {ms = ms} p q r h) =
+  supplied-both false x (value_ahead {k = k} {b = b} {x = y} {a = a} {ms = ms} p q r h) =
       rw (drop-elem slots k used (slot.OfValue b) (omega (arith, ahead-low h)) p, q)
       (this-or (same_name y x) (b.value, k + 1) (a, ms) _ _ (r, subst (λ (n : ℕ). Ahead text ts slots used n ms) (sym (add-one k)) h) (supplied-both false x h))
 
@@ -213,8 +213,8 @@ module _ (w : Given) (tp sp : ℕ) (base : List TypeEntry) where
   all_more : {ts : List ExpandedType} {ss : List Slot} {n : ℕ} {is : List Interface} {js : Interfaces} {x : Name} {ms : List Made} {first used : ℕ} (i : Interface) →
       AllDeclare text ts ss n is js → spelled_in text i.name ≡ x → used ≤ n → Holding text ts ss first used i.types i.values ms →
       AllDeclare text ts ss n (is ++ (i ∷ [])) (js ++ (bind x (interface_of ms) ∷ []))
-  all_more i none-declares q l h = one-declares (declared q l h) none-declares
-  all_more i (one-declares d ds) q l h = one-declares d (all_more i ds q l h)
+  all_more i none_declares q l h = one_declares (declared q l h) none_declares
+  all_more i (one_declares d ds) q l h = one_declares d (all_more i ds q l h)
 
   no-interface : {ts : List ExpandedType} {ss : List Slot} {n : ℕ} {o : Option Interface} {p : Maybe typing.Interface} → BothDeclare text ts ss n o p → no_interface o ≡ is_none p
   no-interface neither-declares = refl
@@ -250,8 +250,8 @@ module _ (w : Given) (tp sp : ℕ) (base : List TypeEntry) where
         none = refl;
         outside = r₁.outside;
         own = face.names;
-        own-declared = c₂.names;
-        modules-are = ap (λ (js : Interfaces). js ++ (bind (name_in text m).bytes (interface_of face.names) ∷ []))
+        own_declared = c₂.names;
+        modules_are = ap (λ (js : Interfaces). js ++ (bind (name_in text m).bytes (interface_of face.names) ∷ []))
             (modules-stay tp sp (name_in text m) (declarations_of text tree ns) (outside h) face ts ts₁ q₁) ∙
             ap (λ (x : Name). h.modules ++ (bind x (interface_of face.names) ∷ [])) (sym (spelled_is m));
       })))))

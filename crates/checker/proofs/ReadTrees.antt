@@ -102,7 +102,7 @@ pub record Facts (text : List ℕ) (tree : List Node) (close : ℕ) : Type 0 whe
   pub sheet : Sheet
   pub end : ℕ
   pub reading-is : reading 65535 text ≡ good sheet end
-  pub modules-are : modules_of text tree tree ≡ sheet.modules
+  pub modules_are : modules_of text tree tree ≡ sheet.modules
   pub closing-is : exp_at 48 text tree close ≡ Some sheet.closing
   pub holds : AllIn text tree tree
   pub few : count (modules_of text tree tree) ≤ 32
@@ -117,8 +117,8 @@ stands-for : (text : List ℕ) (tree : List Node) (close : ℕ) (s : Sheet) → 
 unfolding sheet_at
 stands-for text tree close s e = sheet-parts (exp_at 48 text tree close) (modules_of text tree tree) s e
 
-of-sheet : (text : List ℕ) (close : ℕ) (s : Sheet) (e : ℕ) → reading 65535 text ≡ good s e → length (nodes_s s) ≡ close + 1 → Facts text (nodes_s s) close
-of-sheet text close s e r l =
+of_sheet : (text : List ℕ) (close : ℕ) (s : Sheet) (e : ℕ) → reading 65535 text ≡ good s e → length (nodes_s s) ≡ close + 1 → Facts text (nodes_s s) close
+of_sheet text close s e r l =
     let w = (exactly 65535 text s e).0 r in
     let sp = reads-spelled 65535 text s e r in
     let n = places inner_m s.modules in
@@ -132,7 +132,7 @@ of-sheet text close s e r l =
       sheet = s;
       end = e;
       reading-is = r;
-      modules-are = p.1;
+      modules_are = p.1;
       closing-is = p.0;
       holds = each_all (NodeIn text (nodes_s s)) node.Blank (each_append (each_of text (nodes_s s) inner_m levels_m nodes_m (SpelledM text) length-nodes_m (each-M text (nodes_s s)) 0 s.modules (omega arith) sp.0 st.0)
           (each-E text (nodes_s s) s.closing n));
@@ -144,10 +144,10 @@ read-facts text tree close h = go (reading 65535 text) refl h.0 h.1
   where
     go : (o : Out Sheet) → reading 65535 text ≡ o → tree ≡ nodes_read o → length tree ≡ close + 1 → Facts text tree close
     go (bad k e) r q l = absurd (let z : length tree ≡ 0 = ap length q in omega arith)
-    go (good s e) r q l = subst (λ (ns : List Node). Facts text ns close) (sym q) (of-sheet text close s e r (ap length (sym q) ∙ l))
+    go (good s e) r q l = subst (λ (ns : List Node). Facts text ns close) (sym q) (of_sheet text close s e r (ap length (sym q) ∙ l))
 
 -- the sheet in the tree is the one that the text is read as
 pub sheet-in : (text : List ℕ) (tree : List Node) (close : ℕ) (f : Facts text tree close) →
     ◌≡◌ {A = Sheet} (record { modules = modules_of text tree tree; closing = f.sheet.closing }) (sheet_in text)
 sheet-in text tree close f =
-    ap (λ (ms : List Module). record { modules = ms; closing = f.sheet.closing }) f.modules-are ∙ sym (ap sheet_read f.reading-is)
+    ap (λ (ms : List Module). record { modules = ms; closing = f.sheet.closing }) f.modules_are ∙ sym (ap sheet_read f.reading-is)

@@ -92,7 +92,7 @@ module _ (text : List ℕ) (tree : List Node) where
     pub size : ℕ
     pub end_is : e ≡ k + size
     pub within : size < length ns
-    pub modules-are : modules_of text tree ns ≡ section_of at m (take size ns) ∷ modules_of text tree (drop (size + 1) ns)
+    pub modules_are : modules_of text tree ns ≡ section_of at m (take size ns) ∷ modules_of text tree (drop (size + 1) ns)
 
   section-on : (k : ℕ) (x : Node) (ns : List Node) (e : ℕ) (m : Span) (o : Option Span) → end_of x ≡ o →
       (module_end (suc k) ns ≡ Some (e, m) → Section (suc k) e m ns) → or_end o k (module_end (suc k) ns) ≡ Some (e, m) → Section k e m (x ∷ ns)
@@ -103,7 +103,7 @@ module _ (text : List ℕ) (tree : List Node) where
         size = suc r.size;
         end_is = (let z = r.end_is in omega arith);
         within = (let z = r.within in omega arith);
-        modules-are = ap (gather (addition text tree x)) r.modules-are ∙
+        modules_are = ap (gather (addition text tree x)) r.modules_are ∙
             (one-gathered (addition text tree x) r.at m x (take r.size ns) (modules_of text tree (drop (r.size + 1) ns)) (node-inside x p) refl ∙
             (let u : suc r.size + 1 ≡ suc (r.size + 1) = omega arith in rw u));
       }
@@ -117,7 +117,7 @@ module _ (text : List ℕ) (tree : List Node) where
         size = 0;
         end_is = omega arith;
         within = omega arith;
-        modules-are = ap (λ (b : Addition). gather b (modules_of text tree ns)) a.1 ∙
+        modules_are = ap (λ (b : Addition). gather b (modules_of text tree ns)) a.1 ∙
             ap (λ (v : Span). section_of a.0 v [] ∷ modules_of text tree ns) z;
       }
 

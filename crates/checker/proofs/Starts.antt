@@ -15,7 +15,7 @@ use Rattle.typing.specs.declared.types.Slot.{Slot}
 use Rattle.typing.specs.declared.types.Known.{Known}
 use Rattle.typing.specs.declared.tables.Tables.{Tables}
 use Rattle.typing.specs.Tables.{State, state_of, Gave}
-use Rattle.typing.specs.Stands.{Stands, row-int, row-bool}
+use Rattle.typing.specs.Stands.{Stands, row_int, row_bool}
 use Rattle.typing.proofs.Alike.{Tie, Alike, alike-bad, alike-good, next-refl}
 use Rattle.typing.proofs.Rows.{adding-alike}
 use Rattle.checker.specs.Stocks.{stock_in}
@@ -60,10 +60,10 @@ module _ (tp : ℕ) where
 module _ (text : List ℕ) (base : List TypeEntry) (tp sp : ℕ) where
   first_goes : (s : State) → Stands text tp sp base s [] → Alike text tp sp base First 0 s [] (first_n s) (first tp)
   first_goes s st =
-      then-with text base tp sp _ _ (adding-alike text tp sp base 0 0 s [] entry.Int int st row-int refl refl) (λ k a s₁ ts₁ q₁ n₁ r₁.
+      then-with text base tp sp _ _ (adding-alike text tp sp base 0 0 s [] entry.Int int st row_int refl refl) (λ k a s₁ ts₁ q₁ n₁ r₁.
       let e₁ : ts₁ ≡ int ∷ [] = entering-new tp 0 int [] a ts₁ q₁ refl in
       let m₁ : member bool ts₁ ≡ false = subst (λ (v : List ExpandedType). member bool v ≡ false) (sym e₁) refl in
-      then-with text base tp sp _ _ (adding-alike text tp sp base 0 0 s₁ ts₁ entry.Bool bool n₁.stands row-bool m₁ refl) (λ k b s₂ ts₂ q₂ n₂ r₂.
+      then-with text base tp sp _ _ (adding-alike text tp sp base 0 0 s₁ ts₁ entry.Bool bool n₁.stands row_bool m₁ refl) (λ k b s₂ ts₂ q₂ n₂ r₂.
       let e₂ : ts₂ ≡ int ∷ bool ∷ [] = entering-new tp 0 bool ts₁ b ts₂ q₂ m₁ ∙ ap (λ (v : List ExpandedType). v ++ bool ∷ []) e₁ in
       alike-good (next-refl text tp sp base 0 s₂ ts₂ n₂.stands)
       (subst (λ (v : List ExpandedType). slice_get v 0 ≡ Some int) (sym e₂) refl, subst (λ (v : List ExpandedType). slice_get v 1 ≡ Some bool) (sym e₂) refl)))

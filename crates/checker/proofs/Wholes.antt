@@ -15,12 +15,12 @@ use Rattle.typing.specs.declared.types.TypeEntry.{TypeEntry}
 use Rattle.typing.specs.declared.types.Slot.{Slot}
 use Rattle.typing.specs.declared.types.Interface.{Interface}
 use Rattle.typing.specs.declared.types.Known.{Known}
-use Rattle.typing.specs.Stands.{Stands, Stocks, rows_none, none-declares}
+use Rattle.typing.specs.Stands.{Stands, Stocks, rows_none, none_declares}
 use Rattle.checker.specs.declared.sheets.Progress.{Progress}
 use Rattle.checker.specs.Sheets.{state_in, places, Between, AfterModules, Start, Finish, ClosedBy, AfterClosing}
 use Rattle.checker.specs.Stocks.{stock_in}
 use Rattle.checker.specs.Kinds.{first_types, AfterStart}
-use Rattle.checker.specs.Modules.{none-declared}
+use Rattle.checker.specs.Modules.{none_declared}
 use Rattle.checker.specs.Runs.{Answers}
 
 -- a table with no type yet
@@ -29,7 +29,7 @@ none-stands text types slots = record {
   count = refl;
   fits = omega arith;
   types_long = refl;
-  slots-long = refl;
+  slots_long = refl;
   rows = rows_none;
   rest = refl;
   distinct = λ i j a p q. (let z : ◌≡◌ {A = ℕ} 0 1 = cc in absurd (omega arith));
@@ -84,7 +84,7 @@ module _ (text : List ℕ) (tree : List Node) (base : List TypeEntry) (tp sp : �
             told = us;
             between = record {
               stands = subst (λ (k : ℕ). Stands text tp sp base (state_in types k slots) us) z b.stands;
-              seen = record { int_is = b.int_is; bool_is = b.bool_is; modules = none-declares; stock = subst (λ (v : List Known). Stocks us v (stock_types (stock_in entries))) ke h.3; used-is = refl; low = omega arith; none = refl; declared = none-declared };
+              seen = record { int_is = b.int_is; bool_is = b.bool_is; modules = none_declares; stock = subst (λ (v : List Known). Stocks us v (stock_types (stock_in entries))) ke h.3; used_is = refl; low = omega arith; none = refl; declared = none_declared };
             };
             is = ap (λ (o : Out (List ExpandedType) Unit). after o (λ _ ts. after (modules_then ts) closing_then)) q;
             modules-is = ap (λ (o : Out (List ExpandedType) Unit). after o (λ _. modules_then)) q;
@@ -96,7 +96,7 @@ module _ (text : List ℕ) (tree : List Node) (base : List TypeEntry) (tp sp : �
     pub told : List ExpandedType
     pub between : Between text base known tp sp is types p.count slots p.used told scope
     pub rest-is : whole ≡ closing_then scope told
-    pub modules-are : modules_whole ≡ good scope told
+    pub modules_are : modules_whole ≡ good scope told
 
   module _ (n : ℕ) (ks : List Known) (types₁ : List TypeEntry) (slots₁ : List Slot) (g : One n ks types₁ slots₁) (et : places types₁ ≡ tp) (es : places slots₁ ≡ sp)
       (r : Result Progress CheckFault) (interfaces : List Interface) (types₂ : List TypeEntry) (slots₂ : List Slot)
@@ -131,7 +131,7 @@ module _ (text : List ℕ) (tree : List Node) (base : List TypeEntry) (tp sp : �
               between = subst (λ (js : List Interface). Between text base ks tp sp js types₂ p.count slots₂ p.used us k) ie
                   (subst (λ (v : Progress). Between text base ks tp sp (take v.modules interfaces) types₂ v.count slots₂ v.used us k) x h.2);
               rest-is = g.is ∙ ap (λ (o : Out (List ExpandedType) rules.Scope). after o closing_then) y;
-              modules-are = g.modules-is ∙ y;
+              modules_are = g.modules-is ∙ y;
             }
 
   module _ (known : List Known) (p : Progress) (close : ℕ) (is : List Interface) (types₂ : List TypeEntry) (slots₂ : List Slot) (g : All known p is types₂ slots₂)
@@ -160,14 +160,14 @@ module _ (text : List ℕ) (tree : List Node) (base : List TypeEntry) (tp sp : �
         go : (o : Out (List ExpandedType) ExpandedType) → ClosedBy text base tp sp p.used g.scope.modules o r types₃ slots₃ → Answers text tp sp base modules_whole o (Ok (k, p.used)) types₃ slots₃
         go (bad e) h = let z : ◌≡◌ {A = ℕ} 0 1 = cc in absurd (omega arith)
         go (good a us) h =
-            let pr : ◌≡◌ {A = ℕ × ℕ} (h.number, h.types-then) (k, n) = (let y = h.result in cc) in
+            let pr : ◌≡◌ {A = ℕ × ℕ} (h.number, h.types_then) (k, n) = (let y = h.result in cc) in
             let x : h.number ≡ k = ap (λ (c : ℕ × ℕ). c.0) pr in
             record {
               number = k;
               used = p.used;
-              types-then = h.types-then;
+              types_then = h.types_then;
               result = refl;
               tells = subst (λ (v : ℕ). slice_get us v ≡ Some a) x h.tells;
               stands = h.stands;
-              declarations = record { scope = g.scope; told = g.told; came-to = g.modules-are; used-are = g.between.seen.used-is; declared = h.declared };
+              declarations = record { scope = g.scope; told = g.told; came_to = g.modules_are; used_are = g.between.seen.used_is; declared = h.declared };
             }

@@ -48,17 +48,17 @@ definitions_of text ns (x ∷ xs) = with_definition (addition text ns x) (defini
 -- the places of the scope table from one on, up to `used`, hold what was made, in order
 pub data Ahead (text : List ℕ) (ts : List ExpandedType) (slots : List Slot) (used : ℕ) : ℕ → List Made → Type 0 where
   no_more : Ahead text ts slots used used []
-  type-ahead : {k : ℕ} {b : Binding ℕ} {x : Name} {a : ExpandedType} {ms : List Made} → get_elem? slots k ≡ some (slot.OfType b) →
+  type_ahead : {k : ℕ} {b : Binding ℕ} {x : Name} {a : ExpandedType} {ms : List Made} → get_elem? slots k ≡ some (slot.OfType b) →
       spelled_in text b.name ≡ x → slice_get ts b.value ≡ Some a → Ahead text ts slots used (suc k) ms →
       Ahead text ts slots used k (made_type x a ∷ ms)
-  value-ahead : {k : ℕ} {b : Binding ℕ} {x : Name} {a : ExpandedType} {ms : List Made} → get_elem? slots k ≡ some (slot.OfValue b) →
+  value_ahead : {k : ℕ} {b : Binding ℕ} {x : Name} {a : ExpandedType} {ms : List Made} → get_elem? slots k ≡ some (slot.OfValue b) →
       spelled_in text b.name ≡ x → slice_get ts b.value ≡ Some a → Ahead text ts slots used (suc k) ms →
       Ahead text ts slots used k (made_value x a ∷ ms)
 
 -- the places of the scope table up to `used` hold the declarations of these interfaces, one interface behind the other
 pub data Declared (text : List ℕ) (ts : List ExpandedType) (slots : List Slot) : (used : ℕ) → Interfaces → Type 0 where
-  none-declared : Declared text ts slots 0 []
-  more-declared : {u v t w : ℕ} {ms : List Made} {js : Interfaces} (x : Name) → Declared text ts slots u js →
+  none_declared : Declared text ts slots 0 []
+  more_declared : {u v t w : ℕ} {ms : List Made} {js : Interfaces} (x : Name) → Declared text ts slots u js →
       Holding text ts slots u v t w ms → Declared text ts slots v (js ++ (bind x (interface_of ms) ∷ []))
 
 -- the interface that a module left
@@ -76,5 +76,5 @@ pub record Left (w : Given) (m : Span) (u : ℕ) (earlier : Interfaces) (s : Sta
   pub none : h.names ≡ []
   pub outside : u ≤ g.used
   pub own : List Made
-  pub own-declared : Holding w.text.now ts s.slots u g.used g.types g.values own
-  pub modules-are : h.modules ≡ earlier ++ (bind (spelled_in w.text.now m) (interface_of own) ∷ [])
+  pub own_declared : Holding w.text.now ts s.slots u g.used g.types g.values own
+  pub modules_are : h.modules ≡ earlier ++ (bind (spelled_in w.text.now m) (interface_of own) ∷ [])

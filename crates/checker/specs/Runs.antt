@@ -25,8 +25,8 @@ use Rattle.checker.specs.Modules.{Declared}
 pub record Declarations (text : List ℕ) (m : Out (List ExpandedType) rules.Scope) (us : List ExpandedType) (used : ℕ) (slots : List Slot) : Type 0 where
   pub scope : rules.Scope
   pub told : List ExpandedType
-  pub came-to : m ≡ good scope told
-  pub used-are : used ≡ scope.used
+  pub came_to : m ≡ good scope told
+  pub used_are : used ≡ scope.used
   pub declared : Declared text us slots used scope.modules
 
 -- the check passed with the type a: it is told by its number; the type table stands for the types us in their order, and is as before behind them
@@ -34,10 +34,10 @@ pub record Passed (text : List ℕ) (tp sp : ℕ) (base : List TypeEntry) (m : O
     (types : List TypeEntry) (slots : List Slot) : Type 0 where
   pub number : ℕ
   pub used : ℕ
-  pub types-then : ℕ
+  pub types_then : ℕ
   pub result : r ≡ Ok (number, used)
   pub tells : slice_get us number ≡ Some a
-  pub stands : Stands text tp sp base (state_in types types-then slots) us
+  pub stands : Stands text tp sp base (state_in types types_then slots) us
   pub declarations : Declarations text m us used slots
 
 abbrev pub Answers : (text : List ℕ) (tp sp : ℕ) (base : List TypeEntry) → Out (List ExpandedType) rules.Scope → Out (List ExpandedType) ExpandedType →
@@ -76,9 +76,9 @@ pub record Passes (text : List ℕ) (m : Out (List ExpandedType) rules.Scope) (a
   pub result : r ≡ Ok number
   pub tells : slice_get us number ≡ Some a
   pub rows : Rows text us (take (length us) types) us
-  pub types-rest : drop (length us) types ≡ drop (length us) no_types
+  pub types_rest : drop (length us) types ≡ drop (length us) no_types
   pub declarations : Declarations text m us used slots
-  pub slots-rest : drop used slots ≡ drop used no_slots
+  pub slots_rest : drop used slots ≡ drop used no_slots
 
 -- the answer and both tables, by the outcome of the definition, where no_types and no_slots are the tables when blank; a refusal leaves them so
 abbrev pub Ends : (text : List ℕ) → Out (List ExpandedType) rules.Scope → Out (List ExpandedType) ExpandedType → Result ℕ CheckFault →

@@ -61,7 +61,7 @@ pub record Seen (text : List ℕ) (entries : List Known) (interfaces : List Inte
   pub bool_is : slice_get ts 1 ≡ Some bool
   pub modules : AllDeclare text ts slots used interfaces h.modules
   pub stock : Stocks ts entries h.stock
-  pub used-is : used ≡ h.used
+  pub used_is : used ≡ h.used
   pub low : used ≤ 65535
   pub none : h.names ≡ []
   pub declared : Declared text ts slots used h.modules
@@ -128,10 +128,10 @@ pub record Going (text : List ℕ) (tree : List Node) (base : List TypeEntry) (e
 pub record Closed (text : List ℕ) (base : List TypeEntry) (tp sp used : ℕ) (modules : Interfaces) (a : ExpandedType) (us : List ExpandedType) (r : Result (ℕ × ℕ) CheckFault)
     (types : List TypeEntry) (slots : List Slot) : Type 0 where
   pub number : ℕ
-  pub types-then : ℕ
-  pub result : r ≡ Ok (number, types-then)
+  pub types_then : ℕ
+  pub result : r ≡ Ok (number, types_then)
   pub tells : slice_get us number ≡ Some a
-  pub stands : Stands text tp sp base (state_in types types-then slots) us
+  pub stands : Stands text tp sp base (state_in types types_then slots) us
   pub declared : Declared text us slots used modules
 
 abbrev pub ClosedBy : (text : List ℕ) (base : List TypeEntry) (tp sp used : ℕ) (modules : Interfaces) → Out (List ExpandedType) ExpandedType → Result (ℕ × ℕ) CheckFault →

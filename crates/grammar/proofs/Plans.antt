@@ -206,7 +206,7 @@ module _ (text : List ℕ) where
   body-plan : (ns : List Node) (fs : List Definition) (u : ℕ) (r : List Node) → Every (SpelledF text) fs
       → Stand ns u (nodes_of inner_f nodes_f u fs)
       → BodyStands (map (node_of text) ns) (tasks_of text r) (map plain_f fs) (tasks_of text (nodes_of inner_f nodes_f u fs ++ r))
-  body-plan ns [] u r sp h = language.b-none
+  body-plan ns [] u r sp h = language.b_none
   body-plan ns (is.type_is at t a ∷ fs) u r sp h =
       let d = is.type_is at t a in
       let v = u + (inner_f d + 1) in
@@ -215,7 +215,7 @@ module _ (text : List ℕ) where
       let e : tasks_of text ((nodes_f u d ++ xs) ++ r) ≡ tasks_of text (xs ++ r) = ap (tasks_of text) (append_assoc (nodes_f u d) xs r)
       ∙ tasks-type_is u at t a (xs ++ r) in
       subst (BodyStands (map (node_of text) ns) (tasks_of text r) (map plain_f (d ∷ fs))) (sym e)
-      (language.b-skip (body-plan ns fs v r sp.1 s.1))
+      (language.b_skip (body-plan ns fs v r sp.1 s.1))
   body-plan ns (is.value_is x a ∷ fs) u r sp h =
       let d = is.value_is x a in
       let v = u + (inner_f d + 1) in
@@ -226,7 +226,7 @@ module _ (text : List ℕ) where
       ap (tasks_of text) (append_assoc (nodes_f u d) xs r) ∙ (tasks-value_is u x a (xs ++ r)
       ∙ ap (λ z. language.define z (u + inner_e a) ∷ tasks_of text (xs ++ r)) sp.0.0) in
       subst (BodyStands (map (node_of text) ns) (tasks_of text r) (map plain_f (d ∷ fs))) (sym e)
-      (language.b-task (exp-plan a u ns sp.0.1 t.0) (body-plan ns fs v r sp.1 s.1))
+      (language.b_task (exp-plan a u ns sp.0.1 t.0) (body-plan ns fs v r sp.1 s.1))
 
   -- the node of a module, behind its declarations and definitions
   tasks-M : (u : ℕ) (m : Module) (r : List Node)
@@ -247,7 +247,7 @@ module _ (text : List ℕ) where
   modules-plan : (ns : List Node) (ms : List Module) (u : ℕ) (r : List Node) → tasks_of text r ≡ [] → Every (SpelledM text) ms
       → Stand ns u (nodes_of inner_m nodes_m u ms)
       → ModulesStand (map (node_of text) ns) (map plain_m ms) (tasks_of text (nodes_of inner_m nodes_m u ms ++ r))
-  modules-plan ns [] u r e sp h = subst (ModulesStand (map (node_of text) ns) []) (sym e) language.m-none
+  modules-plan ns [] u r e sp h = subst (ModulesStand (map (node_of text) ns) []) (sym e) language.m_none
   modules-plan ns (m ∷ ms) u r e sp h =
       let ds = m.interface in
       let fs = m.body in
@@ -266,7 +266,7 @@ module _ (text : List ℕ) where
       let b = body-plan ns fs w (x ∷ (rest ++ r)) sp.0.2 o.0 in
       let c = subst (λ z. BodyStands (map (node_of text) ns) z (map plain_f fs)
       (tasks_of text (nodes_of inner_f nodes_f w fs ++ (x ∷ (rest ++ r))))) (tasks-end m (rest ++ r) sp.0) b in
-      subst (ModulesStand (map (node_of text) ns) (map plain_m (m ∷ ms))) (sym i) (language.m-more (modules-plan ns ms v r e sp.1
+      subst (ModulesStand (map (node_of text) ns) (map plain_m (m ∷ ms))) (sym i) (language.m_more (modules-plan ns ms v r e sp.1
       s.1) c)
 
   -- THE ORDER OF PARTS: R are the roots of the whole, `close` the last of them
@@ -420,10 +420,10 @@ module _ (text : List ℕ) where
       let i : 0 + n ≡ n = omega arith in
       let g = good-S (roots_of (tasks_of text ns) (close_of s)) (close_of s) s refl in
       record {
-        modules-stand = modules-plan ns ms 0 tail (no-task s.closing n) sp.0 st.0;
-        closing-stands = exp-plan s.closing n ns sp.1 (subst (λ z. Stand ns z tail) i st.1);
-        roots-ascend = ascends 0 (roots_of (tasks_of text ns) (close_of s)) g.ascend;
-        inner-first = g.first (λ k j b. refl);
+        modules_stand = modules-plan ns ms 0 tail (no-task s.closing n) sp.0 st.0;
+        closing_stands = exp-plan s.closing n ns sp.1 (subst (λ z. Stand ns z tail) i st.1);
+        roots_ascend = ascends 0 (roots_of (tasks_of text ns) (close_of s)) g.ascend;
+        inner_parts_first = g.first (λ k j b. refl);
       }
 
 pub plan-stands : PlanStands

@@ -52,5 +52,5 @@ safe-runs p =
     record {
       sound = jobs-sound text p.sheet.tree.now p.sheet.close p.sheet.read (stock_for p) (type_for p) t.typed;
       exchanged = exchanged (stock_for p) (sheet_in text) (type_for p) t.typed;
-      lawful = λ pantry l same. record { same-stock = same; by_kind = l.by_kind };
+      lawful = λ pantry l same. record { same_stock = same; by_kind = l.by_kind };
     }

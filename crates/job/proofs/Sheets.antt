@@ -2,7 +2,7 @@
 use Rattle.std.proofs.Common.{◌≡◌, ℕ, suc, ◌≤◌, List, [], ◌∷◌, map, length, sym, refl, ap, ◌∙◌, subst, arith}
 use Rattle.language.specs.Syntax as language
 use Rattle.language.specs.Tree as tree
-use Rattle.language.specs.Tree.{SheetStands, BodyStands, b-none, b-skip, b-task, ModulesStand, m-none, m-more}
+use Rattle.language.specs.Tree.{SheetStands, BodyStands, b_none, b_skip, b_task, ModulesStand, m_none, m_more}
 use Rattle.grammar.specs.declared.tree.Item.TheVariants as item
 use Rattle.grammar.specs.declared.tree.Node.{Node}
 use Rattle.grammar.specs.declared.tree.Node.TheVariants as node
@@ -21,14 +21,14 @@ use Rattle.job.specs.Begins.{ending, ends_from}
 body-ending : {t : List tree.Node} {rest ts : List tree.Task} {ds : List language.Definition} → BodyStands t rest ds ts → ending ts ≡
     ending rest
 unfolding ending
-body-ending b-none = refl
-body-ending (b-skip b) = body-ending b
-body-ending (b-task s b) = body-ending b
+body-ending b_none = refl
+body-ending (b_skip b) = body-ending b
+body-ending (b_task s b) = body-ending b
 
 modules-ending : {t : List tree.Node} {ms : List language.Module} {ts : List tree.Task} → ModulesStand t ms ts → ending ts ≡ length ms
 unfolding ending
-modules-ending m-none = refl
-modules-ending (m-more m b) = body-ending b ∙ ap suc (modules-ending m)
+modules-ending m_none = refl
+modules-ending (m_more m b) = body-ending b ∙ ap suc (modules-ending m)
 
 -- whatever the text
 ending-same : (text : List ℕ) (ns : List Node) → ending (tasks_of [] ns) ≡ ending (tasks_of text ns)
@@ -60,7 +60,7 @@ planned text nodes close h =
     let d = read-holds text nodes close h in
     let q : reading 65535 text ≡ good d.sheet (length text) = (exactly 65535 text d.sheet (length text)).1 d.lawful in
     let len = ap length d.nodes ∙ length-nodes_s d.sheet in
-    let bodies : ending (tasks_of text nodes) ≡ count d.sheet.modules = modules-ending d.plan.modules-stand ∙ length-count
+    let bodies : ending (tasks_of text nodes) ≡ count d.sheet.modules = modules-ending d.plan.modules_stand ∙ length-count
     d.sheet.modules in
     let P : Sheet → Type 0 = λ s. SheetStands (plan_of text nodes close) (plain s) in
     record {

@@ -45,4 +45,4 @@ behind xs = drop table_limit xs
 -- what lies behind is untouched
 pub record Behind (cells cells' : List Cell) (frames frames' : List Frame) : Type 0 where
   pub cells_stay : behind cells' ≡ behind cells
-  pub frames-stay : behind frames' ≡ behind frames
+  pub frames_stay : behind frames' ≡ behind frames

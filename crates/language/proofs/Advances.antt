@@ -84,11 +84,11 @@ spent-stays w a s (stopped k) = stays-stopped w a s k step_limit
 -- ── the count of steps ──
 
 counted : (w : Program) (a : ℕ) (s : Store) (x : Status) (n : ℕ) → Counted n a (stepping w a s x n)
-counted w zero s x n = record { within-limit = λ h. h; within-allowance = omega arith; going_on = λ h g. omega arith }
+counted w zero s x n = record { within_limit = λ h. h; within_allowance = omega arith; going_on = λ h g. omega arith }
 counted w (suc a) s (finished v) n =
-    record { within-limit = λ h. h; within-allowance = omega arith; going_on = λ h g. absurd g }
+    record { within_limit = λ h. h; within_allowance = omega arith; going_on = λ h g. absurd g }
 counted w (suc a) s (stopped k) n =
-    record { within-limit = λ h. h; within-allowance = omega arith; going_on = λ h g. absurd g }
+    record { within_limit = λ h. h; within_allowance = omega arith; going_on = λ h g. absurd g }
 counted w (suc a) s (running r) n = go (ltb n step_limit) refl (step w s r) (counted w a)
   where
     go : (t : Bool) → ltb n step_limit ≡ t → (p : Outcome) →
@@ -98,17 +98,17 @@ counted w (suc a) s (running r) n = go (ltb n step_limit) refl (step w s r) (cou
         let m = f s' (running r') (suc n) in
         let l : n < step_limit = ltb-true n step_limit q in
         record {
-          within-limit = λ h. m.within-limit (omega arith);
-          within-allowance = omega (arith, m.within-allowance);
+          within_limit = λ h. m.within_limit (omega arith);
+          within_allowance = omega (arith, m.within_allowance);
           going_on = λ h g. m.going_on (omega arith) g ∙ ap (λ (k : ℕ). min k step_limit) (omega arith);
         }
     go true q (done v) f =
         let l : n < step_limit = ltb-true n step_limit q in
-        record { within-limit = λ h. omega arith; within-allowance = omega arith; going_on = λ h g. absurd g }
-    go true q (stop k) f = record { within-limit = λ h. h; within-allowance = omega arith; going_on = λ h g. absurd g }
+        record { within_limit = λ h. omega arith; within_allowance = omega arith; going_on = λ h g. absurd g }
+    go true q (stop k) f = record { within_limit = λ h. h; within_allowance = omega arith; going_on = λ h g. absurd g }
     go false q p f =
         let l : step_limit ≤ n = ltb-false n step_limit q in
-        record { within-limit = λ h. h; within-allowance = omega arith; going_on = λ h g. omega arith }
+        record { within_limit = λ h. h; within_allowance = omega arith; going_on = λ h g. omega arith }
 
 pub steps-counted : StepsCounted
 steps-counted w a s j = counted w a s j.status j.steps
@@ -118,21 +118,21 @@ steps-counted w a s j = counted w a s j.status j.steps
 two-advances : (plan : Plan) (m : Moment) (p : Pantry) (a b : ℕ) → after plan p b (after plan p a m) ≡ after plan p (a + b) m
 two-advances plan m p a b = sym (advances-add (program_of plan p) a b m.store m.job)
 
-end-repeats : (plan : Plan) (m : Moment) (cs : Calls) → Ended m.job.status → log plan m cs ≡ replicate (call_count cs) (answer_at m)
-end-repeats plan m no_call h = refl
-end-repeats plan m finish h = refl
-end-repeats plan m (status cs) h = ap (λ (l : List Logged). answer_at m ∷ l) (end-repeats plan m cs h)
-end-repeats plan m (advance p a cs) h =
-    rw (ended-stays (program_of plan p) a m.store m.job h) (ap (λ (l : List Logged). answer_at m ∷ l) (end-repeats plan m cs h))
+end_repeats : (plan : Plan) (m : Moment) (cs : Calls) → Ended m.job.status → log plan m cs ≡ replicate (call_count cs) (answer_at m)
+end_repeats plan m no_call h = refl
+end_repeats plan m finish h = refl
+end_repeats plan m (status cs) h = ap (λ (l : List Logged). answer_at m ∷ l) (end_repeats plan m cs h)
+end_repeats plan m (advance p a cs) h =
+    rw (ended-stays (program_of plan p) a m.store m.job h) (ap (λ (l : List Logged). answer_at m ∷ l) (end_repeats plan m cs h))
 
 pub calls-law : CallsLaw
 calls-law = record {
-  status-keeps = λ plan m cs. refl;
-  finish-keeps = λ plan m. refl;
-  advances-join = λ plan m p a b cs. ap (λ (k : Moment). answer_at (after plan p a m) ∷ (answer_at k ∷ log plan k cs))
+  status_keeps = λ plan m cs. refl;
+  finish_keeps = λ plan m. refl;
+  advances_join = λ plan m p a b cs. ap (λ (k : Moment). answer_at (after plan p a m) ∷ (answer_at k ∷ log plan k cs))
       (two-advances plan m p a b);
-  end-repeats = end-repeats;
+  end_repeats = end_repeats;
 }
 
 pub lawful-suits : LawfulSuits
-lawful-suits p l = record { same-stock = refl; by_kind = l.by_kind }
+lawful-suits p l = record { same_stock = refl; by_kind = l.by_kind }

@@ -71,7 +71,7 @@ use Rattle.language.proofs.Handing.{hand-kept, tried-kept, entering-good, bound-
 
 module _ (w : Setting) (one-expression : OneExpression w) (p : Pantry) (suits : Suits w.stock p) (goal : Goal) where
   stocked : (i : EntryNumber) (e : Entry) → get_elem? p i ≡ some e → get_elem? w.stock i ≡ some (bind e.name e.kind)
-  stocked i e at = rw suits.same-stock at (stock-at p i e at)
+  stocked i e at = rw suits.same_stock at (stock-at p i e at)
 
   entry-good : {n : Interfaces} {b : ExpandedType} (s : Store) (r : Registers) (i : EntryNumber) (e : Entry) (k : Kind) → e.kind ≡ k →
       get_elem? p i ≡ some e → StackIn w n s r.frame_count (kind_type k) b → RestIn w goal n s r b →
@@ -102,17 +102,17 @@ module _ (w : Setting) (one-expression : OneExpression w) (p : Pantry) (suits : 
       (handing_value (from_module s (lookup r.module_scopes m) x))))
   taking-good {n} {b} s r j m x e a se h sk o = go (same_name pantry_name m) h
     where
-      of-module : (i : Option Interface) → lookup e.modules m ≡ i → value_declared i x ≡ some a →
+      of_module : (i : Option Interface) → lookup e.modules m ≡ i → value_declared i x ≡ some a →
           Good w goal s (performing (program_in w goal p) s r (handing_value (from_module s (lookup r.module_scopes m) x)))
-      of-module none q k = let z : ◌≡◌ {A = ℕ} 0 1 = cc in absurd (omega arith)
-      of-module (some i) q k =
+      of_module none q k = let z : ◌≡◌ {A = ℕ} 0 1 = cc in absurd (omega arith)
+      of_module (some i) q k =
           let (sc, g, at, sh, cov) = scopes-find m i o.scopes-fit (se.earlier m i q) in
           let (v, found_it, f) = nearest-fits s r sc x a o sh (cov x a k) in
           value-good s r v (from_module s (lookup r.module_scopes m) x) (rw at found_it) f sk o
 
       of-stock : lookup e.stock x ≡ some a → Good w goal s (performing (program_in w goal p) s r (from_entry (entry_for p x)))
       of-stock k =
-          let same : e.stock ≡ stock_types (stock_of p) = se.stock-is ∙ ap stock_types (sym suits.same-stock) in
+          let same : e.stock ≡ stock_types (stock_of p) = se.stock-is ∙ ap stock_types (sym suits.same_stock) in
           let (i, d, q, at, ty) = stock-find 0 p x a (rw same at k) in
           let here : entry_for p x ≡ some (numbered i d.kind) = q ∙ ap (λ (k : ℕ). some (numbered k d.kind)) (omega arith) in
           rw here (entry-good s r i d d.kind refl at (rw (sym ty) at sk) o)
@@ -120,7 +120,7 @@ module _ (w : Setting) (one-expression : OneExpression w) (p : Pantry) (suits : 
       go : (f : Bool) → cond f (lookup e.stock x) (value_declared (lookup e.modules m) x) ≡ some a →
           Good w goal s (performing (program_in w goal p) s r (cond f (from_entry (entry_for p x)) (handing_value (from_module s (lookup r.module_scopes m) x))))
       go true k = of-stock k
-      go false k = of-module (lookup e.modules m) refl k
+      go false k = of_module (lookup e.modules m) refl k
 
   letrec-good : {n : Interfaces} {b c : ExpandedType} {e : Environment} {g : Context} (s : Store) (r : Registers) (l : Cell) (k : Part) →
       (Later n n s.cells (set s.cells r.cell_count l) → cell_at (set s.cells r.cell_count l) r.cell_count ≡ l →

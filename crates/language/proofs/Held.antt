@@ -25,7 +25,7 @@ use Rattle.language.specs.Points.{EnvironmentAt}
 use Rattle.language.specs.Pantry.{Kind, EntryNumber}
 use Rattle.language.specs.Scopes.{Scope}
 use Rattle.language.specs.Machine.{Value, integer, boolean, closure, pantry_procedure, Cell, value_cell, letrec_cell, cell_at}
-use Rattle.language.specs.Fits.{Setting, Fits, f-integer, f-boolean, f-proc, f-rec, f-stock, ScopeFits, s-empty, s-value, s-letrec}
+use Rattle.language.specs.Fits.{Setting, Fits, f_integer, f_boolean, f_proc, f_rec, f_stock, ScopeFits, s_empty, s_value, s_letrec}
 
 -- Part j is seen with e, whose interfaces are among those of the ended modules n, and whose pantry is the pantry.
 pub record Seen (w : Setting) (n : Interfaces) (j : Part) (e : Environment) : Type 0 where
@@ -78,17 +78,17 @@ mutual
 
 mutual
   pub held_fits : {w : Setting} {n : Interfaces} {cs : List Cell} {v : Value} {a : ExpandedType} → Held w n cs v a → Fits w cs v a
-  held_fits v-integer = f-integer
-  held_fits v-boolean = f-boolean
-  held_fits (v-proc q s g t) = let (x, h, u) = rows-typed t in f-proc q s.at (scope-fits g) h u
-  held_fits (v-rec u t c k q s ta ha tb hb b g) = let (x, h, d) = rows-typed b in f-rec u t c q s.at ta ha tb hb (scope-fits g) h d
-  held_fits (v-stock q h) = f-stock q h
+  held_fits v-integer = f_integer
+  held_fits v-boolean = f_boolean
+  held_fits (v-proc q s g t) = let (x, h, u) = rows-typed t in f_proc q s.at (scope-fits g) h u
+  held_fits (v-rec u t c k q s ta ha tb hb b g) = let (x, h, d) = rows-typed b in f_rec u t c q s.at ta ha tb hb (scope-fits g) h d
+  held_fits (v-stock q h) = f_stock q h
 
   scope-fits : {w : Setting} {n : Interfaces} {cs : List Cell} {s : Scope} {g : Context} → ScopeHeld w n cs s g → ScopeFits w cs s g
-  scope-fits h-empty = s-empty
-  scope-fits (h-value q k f g) = s-value q (held_fits f) (scope-fits g)
+  scope-fits h-empty = s_empty
+  scope-fits (h-value q k f g) = s_value q (held_fits f) (scope-fits g)
   scope-fits (h-letrec u t c k q s ta ha tb hb b g) = let (x, h, d) = rows-typed b in
-      s-letrec c (f-rec u t c q s.at ta ha tb hb (scope-fits g) h d) (scope-fits g)
+      s_letrec c (f_rec u t c q s.at ta ha tb hb (scope-fits g) h d) (scope-fits g)
 
 -- What a typed sheet promises a job, with every hidden type read as its module defines it.
 -- Each name that the interface declares has that type in the body.

@@ -152,8 +152,8 @@ stock-back (d ∷ p) zero x k h = (d, refl, cc)
 stock-back (d ∷ p) (suc i) x k h = stock-back p i x k h
 
 -- a frame in the table is within it
-pub in-range : (fs : List Frame) (d : ℕ) (f : Frame) → frame_at fs d ≡ f → ¬ (f ≡ blank_frame) → d < length fs
-in-range fs d f q h = elim (dec_le (length fs) d)
+pub figures_in_range : (fs : List Frame) (d : ℕ) (f : Frame) → frame_at fs d ≡ f → ¬ (f ≡ blank_frame) → d < length fs
+figures_in_range fs d f q h = elim (dec_le (length fs) d)
     [ yes k ↦ absurd (h (sym q ∙ get_or-eq_default fs blank_frame k)) | no k ↦ omega arith ]
 
 pub first-is-not-blank : (j s : ℕ) → ¬ (await_first j s ≡ blank_frame)

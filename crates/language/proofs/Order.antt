@@ -130,4 +130,4 @@ root-sees (end_module n ∷ ts) close es h j e m = root-sees ts close es h j e m
 
 pub all-parts-see : PartsSee
 all-parts-see plan sheet st es =
-    (root-sees plan.tasks plan.close es st.roots-ascend, parts-see plan.tree plan.tasks plan.close es st.inner-first)
+    (root-sees plan.tasks plan.close es st.roots_ascend, parts-see plan.tree plan.tasks plan.close es st.inner_parts_first)

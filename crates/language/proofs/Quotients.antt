@@ -29,26 +29,26 @@ neg-under a b h = rw (abs_neg (a / b)) (under a b h)
 
 pub division-law : DivisionLaw
 division-law (pos a) (pos b) h = record {
-  not-over = div-mul-le_self a b;
-  not-under = under a b (above_zero b h);
-  one-sign = λ e. refl;
-  two-signs = λ e. cc;
+  not_over = div-mul-le_self a b;
+  not_under = under a b (above_zero b h);
+  one_sign = λ e. refl;
+  two_signs = λ e. cc;
 }
 division-law (pos a) (negsuc b) h = record {
-  not-over = neg-over a (suc b);
-  not-under = neg-under a (suc b) (omega arith);
-  one-sign = λ e. cc;
-  two-signs = λ e. neg-neg (a / suc b);
+  not_over = neg-over a (suc b);
+  not_under = neg-under a (suc b) (omega arith);
+  one_sign = λ e. cc;
+  two_signs = λ e. neg-neg (a / suc b);
 }
 division-law (negsuc a) (pos b) h = record {
-  not-over = neg-over (suc a) b;
-  not-under = neg-under (suc a) b (above_zero b h);
-  one-sign = λ e. cc;
-  two-signs = λ e. neg-neg (suc a / b);
+  not_over = neg-over (suc a) b;
+  not_under = neg-under (suc a) b (above_zero b h);
+  one_sign = λ e. cc;
+  two_signs = λ e. neg-neg (suc a / b);
 }
 division-law (negsuc a) (negsuc b) h = record {
-  not-over = div-mul-le_self (suc a) (suc b);
-  not-under = under (suc a) (suc b) (omega arith);
-  one-sign = λ e. refl;
-  two-signs = λ e. cc;
+  not_over = div-mul-le_self (suc a) (suc b);
+  not_under = under (suc a) (suc b) (omega arith);
+  one_sign = λ e. refl;
+  two_signs = λ e. cc;
 }

@@ -32,17 +32,17 @@ use Rattle.language.specs.Typing.{
   kind_type,
   stock_types,
   HasType,
-  t-number,
-  t-boolean,
-  t-variable,
-  t-qualified,
-  t-zero,
-  t-apply,
-  t-proc,
-  t-let,
-  t-conditional,
-  t-letrec,
-  t-binary,
+  t_number,
+  t_boolean,
+  t_variable,
+  t_qualified,
+  t_zero,
+  t_apply,
+  t_proc,
+  t_let,
+  t_conditional,
+  t_letrec,
+  t_binary,
 }
 use Rattle.language.specs.Reading.{Reading, reveal, reveal_context, reveal_interface, reveal_modules, reveal_environment}
 use Rattle.language.specs.Pantry.{Kind, figure_kind, flag_kind, figure_by_item, flag_by_item, Stock}
@@ -102,18 +102,18 @@ module _ (ρ : Reading) where
 
   pub typed-read : {e : Environment} {g : Context} {p : Exp} {a : ExpandedType} → HasType e g p a →
       HasType (reveal_environment ρ e) (reveal_context ρ g) p (reveal ρ a)
-  typed-read t-number = t-number
-  typed-read t-boolean = t-boolean
-  typed-read {g = g} (t-variable {x = x} {a = a} h) = t-variable (lookup-map (reveal ρ) g x a h)
-  typed-read {e = e} (t-qualified {m = m} {x = x} {a = a} h) = t-qualified (taken-read e m x a h)
-  typed-read (t-zero t) = t-zero (typed-read t)
-  typed-read (t-apply t u) = t-apply (typed-read t) (typed-read u)
-  typed-read {e = e} (t-proc {t = u} {a = a} h t) = t-proc (expand-read e u a h) (typed-read t)
-  typed-read (t-let t u) = t-let (typed-read t) (typed-read u)
-  typed-read (t-conditional t u v) = t-conditional (typed-read t) (typed-read u) (typed-read v)
-  typed-read {e = e} (t-letrec {u = u} {t = t} {a = a} {b = b} ha hb ty tz) =
-      t-letrec (expand-read e t a ha) (expand-read e u b hb) (typed-read ty) (typed-read tz)
-  typed-read (t-binary {o = o} t u) = rw (result-read o) (t-binary (typed-read t) (typed-read u))
+  typed-read t_number = t_number
+  typed-read t_boolean = t_boolean
+  typed-read {g = g} (t_variable {x = x} {a = a} h) = t_variable (lookup-map (reveal ρ) g x a h)
+  typed-read {e = e} (t_qualified {m = m} {x = x} {a = a} h) = t_qualified (taken-read e m x a h)
+  typed-read (t_zero t) = t_zero (typed-read t)
+  typed-read (t_apply t u) = t_apply (typed-read t) (typed-read u)
+  typed-read {e = e} (t_proc {t = u} {a = a} h t) = t_proc (expand-read e u a h) (typed-read t)
+  typed-read (t_let t u) = t_let (typed-read t) (typed-read u)
+  typed-read (t_conditional t u v) = t_conditional (typed-read t) (typed-read u) (typed-read v)
+  typed-read {e = e} (t_letrec {u = u} {t = t} {a = a} {b = b} ha hb ty tz) =
+      t_letrec (expand-read e t a ha) (expand-read e u b hb) (typed-read ty) (typed-read tz)
+  typed-read (t_binary {o = o} t u) = rw (result-read o) (t_binary (typed-read t) (typed-read u))
 
   kind-read : (k : Kind) → reveal ρ (kind_type k) ≡ kind_type k
   kind-read figure_kind = refl

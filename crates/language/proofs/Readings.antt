@@ -12,25 +12,25 @@ use Rattle.language.specs.Modules.{
   made_type,
   made_value,
   Outward,
-  o-end,
-  o-opaque,
-  o-transparent,
-  o-value,
+  o_end,
+  o_opaque,
+  o_transparent,
+  o_value,
   BodyTyped,
   b_end,
-  b-type,
-  b-value,
+  b_type,
+  b_value,
   Matches,
-  m-end,
-  m-skip,
-  m-opaque,
-  m-transparent,
-  m-value,
+  m_end,
+  m_skip,
+  m_opaque,
+  m_transparent,
+  m_value,
   ModulesTyped,
   opaques_of,
   hides_of,
-  y-none,
-  y-module,
+  y_none,
+  y_module,
 }
 use Rattle.language.specs.Reading.{Reading, reveal, RevealsModule, Reveals, reveal_or, extend, reading_from, reading_of}
 use Rattle.language.proofs.Grow.{lookup-append}
@@ -88,11 +88,11 @@ known-expand n l s ts c k (arrow_type u v) a h =
 -- an interface's types
 known-outward : {l : Interfaces} {s : Context} {m : Name} (n : Interfaces) (j : Interface) → lookup n m ≡ some j → KnownTypes n l →
     {ts vs : Context} {ds : List Declaration} {i : Interface} → KnownCtx n ts → Outward l s m ts vs ds i → KnownCtx n i.types
-known-outward n j q k c o-end = c
-known-outward {m = m} n j q k {ts = ts} c (o-opaque {t = t} o) = known-outward n j q k (known-cons n ts t (hidden m t) (j, q) c) o
-known-outward {l} {s} n j q k {ts = ts} c (o-transparent {t = t} {u = u} {a = a} h o) =
+known-outward n j q k c o_end = c
+known-outward {m = m} n j q k {ts = ts} c (o_opaque {t = t} o) = known-outward n j q k (known-cons n ts t (hidden m t) (j, q) c) o
+known-outward {l} {s} n j q k {ts = ts} c (o_transparent {t = t} {u = u} {a = a} h o) =
     known-outward n j q k (known-cons n ts t a (known-expand n l s ts c k u a h) c) o
-known-outward n j q k c (o-value h o) = known-outward n j q k c o
+known-outward n j q k c (o_value h o) = known-outward n j q k c o
 
 -- a body's types, and of these what it made of the opaque ones
 abbrev MadeKnown : Interfaces → List Made → Type 0
@@ -103,9 +103,9 @@ MadeKnown n (made_value x a ∷ ms) = MadeKnown n ms
 known-body : {n : Interfaces} {s : Context} → KnownTypes n n → {ts g : Context} {ds : List Definition} {ms : List Made} → KnownCtx n ts →
     BodyTyped n s ts g ds ms → MadeKnown n ms
 known-body k c b_end = tt
-known-body {n} {s} k {ts = ts} c (b-type {t = t} {u = u} {a = a} h b) =
+known-body {n} {s} k {ts = ts} c (b_type {t = t} {u = u} {a = a} h b) =
     let y : Known n a = known-expand n n s ts c k u a h in (y, known-body k (known-cons n ts t a y c) b)
-known-body k c (b-value t b) = known-body k c b
+known-body k c (b_value t b) = known-body k c b
 
 abbrev EachKnown : Interfaces → Context → Type 0
 EachKnown n [] = Unit {0}
@@ -113,12 +113,12 @@ EachKnown n (bind t a ∷ os) = Known n a × EachKnown n os
 
 known-matched : {n : Interfaces} {s ts : Context} {ds : List Declaration} {ms : List Made} → MadeKnown n ms →
     (k : Matches n s ts ds ms) → EachKnown n (opaques_of k)
-known-matched k m-end = tt
-known-matched k (m-skip {k = made_type t a} h) = known-matched k.1 h
-known-matched k (m-skip {k = made_value t a} h) = known-matched k h
-known-matched k (m-opaque e h) = (k.0, known-matched k.1 h)
-known-matched k (m-transparent e u h) = known-matched k.1 h
-known-matched k (m-value e u h) = known-matched k h
+known-matched k m_end = tt
+known-matched k (m_skip {k = made_type t a} h) = known-matched k.1 h
+known-matched k (m_skip {k = made_value t a} h) = known-matched k h
+known-matched k (m_opaque e h) = (k.0, known-matched k.1 h)
+known-matched k (m_transparent e u h) = known-matched k.1 h
+known-matched k (m_value e u h) = known-matched k h
 
 -- ── the opaque names differ ──
 
@@ -127,13 +127,13 @@ title_of (bind t a) = t
 
 apart-matched : {n : Interfaces} {s ts : Context} {ds : List Declaration} {ms : List Made} (x : Name) (k : Matches n s ts ds ms) →
     apart_from x (map declared_name ds) ≡ true → apart_from x (map title_of (opaques_of k)) ≡ true
-apart-matched x m-end h = refl
-apart-matched x (m-skip m) h = apart-matched x m h
-apart-matched x (m-opaque {t = t} {ds = ds} e m) h =
+apart-matched x m_end h = refl
+apart-matched x (m_skip m) h = apart-matched x m h
+apart-matched x (m_opaque {t = t} {ds = ds} e m) h =
     let (p, q) = both_true (not (same_name t x)) (apart_from x (map declared_name ds)) h in rw (p, apart-matched x m q)
-apart-matched x (m-transparent {t = t} {ds = ds} e u m) h =
+apart-matched x (m_transparent {t = t} {ds = ds} e u m) h =
     apart-matched x m (both_true (not (same_name t x)) (apart_from x (map declared_name ds)) h).1
-apart-matched x (m-value {x = t} {ds = ds} e u m) h =
+apart-matched x (m_value {x = t} {ds = ds} e u m) h =
     apart-matched x m (both_true (not (same_name t x)) (apart_from x (map declared_name ds)) h).1
 
 -- each of os is found in the list
@@ -150,13 +150,13 @@ each-cons l t a (bind u b ∷ os) h (q, e) =
 
 each-self : {n : Interfaces} {s ts : Context} {ds : List Declaration} {ms : List Made} (k : Matches n s ts ds ms) →
     distinct (map declared_name ds) ≡ true → Each (opaques_of k) (opaques_of k)
-each-self m-end d = tt
-each-self (m-skip m) d = each-self m d
-each-self (m-opaque {t = t} {a = a} {ds = ds} e m) d =
+each-self m_end d = tt
+each-self (m_skip m) d = each-self m d
+each-self (m_opaque {t = t} {a = a} {ds = ds} e m) d =
     let (p, q) = both_true (apart_from t (map declared_name ds)) (distinct (map declared_name ds)) d in
     (rw (same_refl t) (refl {a = some a}), each-cons (opaques_of m) t a (opaques_of m) (apart-matched t m p) (each-self m q))
-each-self (m-transparent {t = t} {ds = ds} e u m) d = each-self m (rest-distinct t (map declared_name ds) d)
-each-self (m-value {x = t} {ds = ds} e u m) d = each-self m (rest-distinct t (map declared_name ds) d)
+each-self (m_transparent {t = t} {ds = ds} e u m) d = each-self m (rest-distinct t (map declared_name ds) d)
+each-self (m_value {x = t} {ds = ds} e u m) d = each-self m (rest-distinct t (map declared_name ds) d)
 
 -- ── readings ──
 
@@ -210,8 +210,8 @@ known-types {n} {m = m} {i = i} f k o l j h = go (lookup-snoc n m l i j h)
 -- what is known before the modules is read the same after them
 later-reading : {s : Context} {n n' : Interfaces} {ms : List Module} (ρ : Reading) (t : ModulesTyped s n ms n') (a : ExpandedType) →
     Known n a → reveal (reading_from ρ (hides_of t)) a ≡ reveal ρ a
-later-reading ρ y-none a k = refl
-later-reading ρ (y-module {n = n} {m = m} {i = i} f g d o ac t) a k =
+later-reading ρ y_none a k = refl
+later-reading ρ (y_module {n = n} {m = m} {i = i} f g d o ac t) a k =
     later-reading (extend ρ m.name (opaques_of ac.matched)) t a (known_more n (bind m.name i ∷ []) a k) ∙
     extend-known n ρ m.name (opaques_of ac.matched) f a k
 
@@ -224,8 +224,8 @@ reads-os ρ σ m l (bind t a ∷ os) n same at (k, ks) (q, e) =
 
 reads-sheet : {s : Context} {n n' : Interfaces} {ms : List Module} (ρ : Reading) → KnownTypes n n → (t : ModulesTyped s n ms n') →
     Reveals (reading_from ρ (hides_of t)) (hides_of t)
-reads-sheet ρ k y-none = tt
-reads-sheet ρ k (y-module {n = n} {m = m} {i = i} f g d o ac t) =
+reads-sheet ρ k y_none = tt
+reads-sheet ρ k (y_module {n = n} {m = m} {i = i} f g d o ac t) =
     let os : Context = opaques_of ac.matched in (
       reads-os ρ (reading_from (extend ρ m.name os) (hides_of t)) m.name os os n
           (λ a y. later-reading (extend ρ m.name os) t a (known_more n (bind m.name i ∷ []) a y) ∙

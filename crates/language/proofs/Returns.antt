@@ -84,7 +84,7 @@ use Rattle.language.proofs.Invariant.{
 }
 use Rattle.language.proofs.Begins.{begin-good}
 use Rattle.language.proofs.Results.{reply_type, by-item, fetch-fine, compute-fine}
-use Rattle.language.proofs.Moves.{in-range, first-is-not-blank, scopes-later, stack_set, scope-within, stock-back}
+use Rattle.language.proofs.Moves.{figures_in_range, first-is-not-blank, scopes-later, stack_set, scope-within, stock-back}
 use Rattle.language.proofs.Handing.{hand-removed, tried-removed, bound-state}
 
 module _ (w : Setting) (one-expression : OneExpression w) (p : Pantry) (suits : Suits w.stock p) (goal : Goal) where
@@ -105,7 +105,7 @@ module _ (w : Setting) (one-expression : OneExpression w) (p : Pantry) (suits : 
       Typed w.tree e g l a → FrameFits w n s.cells (await_second j sc v) a b → StackIn w n s d b c → RestIn w goal n s r c →
       Good w goal s (perform (program_in w goal p) s r (replaces d (await_second j sc v) l sc))
   replacing-good {n} {a} {b} {c} s r d j sc l v q se sh ty fr sk o =
-      let room : d < length s.frames = in-range s.frames d (await_first j sc) q (first-is-not-blank j sc) in
+      let room : d < length s.frames = figures_in_range s.frames d (await_first j sc) q (first-is-not-blank j sc) in
       record {
         n = n;
         a = a;
@@ -158,7 +158,7 @@ module _ (w : Setting) (one-expression : OneExpression w) (p : Pantry) (suits : 
       (h-letrec y z at h e se ta ha tb hb ty sh) ty f sk o)
   second-good s r d j sc u v sk o (r-operand {a = a} {b = b} q (v-stock {i = i} {x = x} {k = k} at h)) f =
       let (from, to) = by-item k a b h in
-      let (e, here, same) = stock-back p i x k (rw (sym suits.same-stock) at at) in
+      let (e, here, same) = stock-back p i x k (rw (sym suits.same_stock) at at) in
       rw q (asking-good s r d i e v here (rw (sym to, sym same) at sk) o (rw from at f))
   second-good {n} s r d j sc u v sk o (r-right {o = m} q (v-integer {z = y})) (v-integer {z = z}) =
       rw q (tried-removed w p goal s r d (compute m y z) (compute-fine w n s.cells m y z) sk o)

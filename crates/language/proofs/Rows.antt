@@ -48,17 +48,17 @@ use Rattle.language.specs.Typing.{
   expand,
   result_of,
   HasType,
-  t-number,
-  t-boolean,
-  t-variable,
-  t-qualified,
-  t-zero,
-  t-apply,
-  t-proc,
-  t-let,
-  t-conditional,
-  t-letrec,
-  t-binary,
+  t_number,
+  t_boolean,
+  t_variable,
+  t_qualified,
+  t_zero,
+  t_apply,
+  t_proc,
+  t_let,
+  t_conditional,
+  t_letrec,
+  t_binary,
 }
 
 -- `Typed tree e g j a`: part j of the tree has the type a where e and the names g are seen
@@ -87,37 +87,37 @@ pub data Typed (tree : List Node) (e : Environment) : Context → Part → Expan
 -- the two agree
 pub typed-rows : {tree : List Node} {e : Environment} {g : Context} {x : Exp} {a : ExpandedType} (j : Part) → Stands tree j x →
     HasType e g x a → Typed tree e g j a
-typed-rows j s t-number = n-number s
-typed-rows j s t-boolean = n-boolean s
-typed-rows j s (t-variable h) = n-variable s h
-typed-rows j s (t-qualified h) = n-qualified s h
-typed-rows j s (t-zero t) = let (k, q, p) = s in n-zero q (typed-rows k p t)
-typed-rows j s (t-apply t u) = let (k, l, q, p, r) = s in n-apply q (typed-rows k p t) (typed-rows l r u)
-typed-rows j s (t-proc {t = y} h t) = let (i, k, q, ty, p) = s in n-proc y q ty h (typed-rows k p t)
-typed-rows j s (t-let t u) = let (k, l, q, p, r) = s in n-let q (typed-rows k p t) (typed-rows l r u)
-typed-rows j s (t-conditional t u v) = let (k, l, n, q, p, r, o) = s in
+typed-rows j s t_number = n-number s
+typed-rows j s t_boolean = n-boolean s
+typed-rows j s (t_variable h) = n-variable s h
+typed-rows j s (t_qualified h) = n-qualified s h
+typed-rows j s (t_zero t) = let (k, q, p) = s in n-zero q (typed-rows k p t)
+typed-rows j s (t_apply t u) = let (k, l, q, p, r) = s in n-apply q (typed-rows k p t) (typed-rows l r u)
+typed-rows j s (t_proc {t = y} h t) = let (i, k, q, ty, p) = s in n-proc y q ty h (typed-rows k p t)
+typed-rows j s (t_let t u) = let (k, l, q, p, r) = s in n-let q (typed-rows k p t) (typed-rows l r u)
+typed-rows j s (t_conditional t u v) = let (k, l, n, q, p, r, o) = s in
     n-conditional q (typed-rows k p t) (typed-rows l r u) (typed-rows n o v)
-typed-rows j s (t-letrec {u = y} {t = z} ha hb t u) = let (h, i, k, l, q, tb, ta, p, r) = s in
+typed-rows j s (t_letrec {u = y} {t = z} ha hb t u) = let (h, i, k, l, q, tb, ta, p, r) = s in
     n-letrec y z q ta ha tb hb (typed-rows k p t) (typed-rows l r u)
-typed-rows j s (t-binary t u) = let (k, l, q, p, r) = s in n-binary q (typed-rows k p t) (typed-rows l r u)
+typed-rows j s (t_binary t u) = let (k, l, q, p, r) = s in n-binary q (typed-rows k p t) (typed-rows l r u)
 
 pub rows-typed : {tree : List Node} {e : Environment} {g : Context} {j : Part} {a : ExpandedType} → Typed tree e g j a → (x : Exp) ×
     Stands tree j x × HasType e g x a
-rows-typed (n-number {z = z} q) = (number z, q, t-number)
-rows-typed (n-boolean {b = b} q) = (boolean b, q, t-boolean)
-rows-typed (n-variable {x = x} q h) = (variable x, q, t-variable h)
-rows-typed (n-qualified {m = m} {x = x} q h) = (qualified m x, q, t-qualified h)
-rows-typed (n-zero {k = k} q t) = let (x, p, h) = rows-typed t in (is_zero x, (k, q, p), t-zero h)
+rows-typed (n-number {z = z} q) = (number z, q, t_number)
+rows-typed (n-boolean {b = b} q) = (boolean b, q, t_boolean)
+rows-typed (n-variable {x = x} q h) = (variable x, q, t_variable h)
+rows-typed (n-qualified {m = m} {x = x} q h) = (qualified m x, q, t_qualified h)
+rows-typed (n-zero {k = k} q t) = let (x, p, h) = rows-typed t in (is_zero x, (k, q, p), t_zero h)
 rows-typed (n-apply {k = k} {l = l} q t u) = let (x, p, h) = rows-typed t in let (y, r, i) = rows-typed u in
-    (apply x y, (k, l, q, p, r), t-apply h i)
-rows-typed (n-proc {i = i} {k = k} {x = z} t q ty ha b) = let (x, p, h) = rows-typed b in (proc z t x, (i, k, q, ty, p), t-proc ha h)
+    (apply x y, (k, l, q, p, r), t_apply h i)
+rows-typed (n-proc {i = i} {k = k} {x = z} t q ty ha b) = let (x, p, h) = rows-typed b in (proc z t x, (i, k, q, ty, p), t_proc ha h)
 rows-typed (n-let {k = k} {l = l} {x = z} q t u) = let (x, p, h) = rows-typed t in let (y, r, i) = rows-typed u in
-    (let_in z x y, (k, l, q, p, r), t-let h i)
+    (let_in z x y, (k, l, q, p, r), t_let h i)
 rows-typed (n-conditional {k = k} {l = l} {n = n} q t u v) =
     let (x, p, h) = rows-typed t in let (y, r, i) = rows-typed u in let (z, s, o) = rows-typed v in
-    (conditional x y z, (k, l, n, q, p, r, s), t-conditional h i o)
+    (conditional x y z, (k, l, n, q, p, r, s), t_conditional h i o)
 rows-typed (n-letrec {h = m} {i = n} {k = k} {l = l} u t {f = f} {x = z} q ta ha tb hb b c) =
     let (x, p, h) = rows-typed b in let (y, r, i) = rows-typed c in
-    (letrec u f z t x y, (m, n, k, l, q, tb, ta, p, r), t-letrec ha hb h i)
+    (letrec u f z t x y, (m, n, k, l, q, tb, ta, p, r), t_letrec ha hb h i)
 rows-typed (n-binary {k = k} {l = l} {o = o} q t u) = let (x, p, h) = rows-typed t in let (y, r, i) = rows-typed u in
-    (binary o x y, (k, l, q, p, r), t-binary h i)
+    (binary o x y, (k, l, q, p, r), t_binary h i)

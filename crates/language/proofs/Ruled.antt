@@ -66,22 +66,22 @@ use Rattle.language.specs.Rules.{
   Top,
   Rule,
   of_number,
-  of-boolean,
-  of-variable,
-  of-proc,
-  of-module,
-  of-plain-entry,
-  of-entry-by-item,
-  of-letrec,
-  of-form,
-  to-left,
-  to-zero,
-  to-right,
-  to-entry,
-  to-let,
-  to-procedure,
-  to-test,
-  to-definition,
+  of_boolean,
+  of_variable,
+  of_proc,
+  of_module,
+  of_plain_entry,
+  of_entry_by_item,
+  of_letrec,
+  of_form,
+  to_left,
+  to_zero,
+  to_right,
+  to_entry,
+  to_let,
+  to_procedure,
+  to_test,
+  to_definition,
   to_end,
 }
 use Rattle.language.specs.Step.{
@@ -118,33 +118,33 @@ module _ (w : Program) (s : Store) (r : Registers) where
   entry-rule c q p (some (numbered i k)) f = go (by_item k) refl
     where
       go : (b : Bool) → by_item k ≡ b → Rule w s r (cond b (hands kept (plain (pantry_procedure i))) (hands kept (fetched i (pos 0))))
-      go true e = of-entry-by-item c q p f e
-      go false e = of-plain-entry c q p f e
+      go true e = of_entry_by_item c q p f e
+      go false e = of_plain_entry c q p f e
 
   module-rule : {j : Part} {sc : Scope} {m x : Name} → r.control ≡ evaluate j sc → node_at w.tree j ≡ qualified_node m x →
       same_name pantry_name m ≡ false → (o : Option Scope) → lookup r.module_scopes m ≡ o → Follows (handing_value (from_module s o x))
   module-rule c q p none f = tt
-  module-rule {x = x} c q p (some o) f = value-rule (nearest s.cells o x) (λ v h. of-module c q p f h)
+  module-rule {x = x} c q p (some o) f = value-rule (nearest s.cells o x) (λ v h. of_module c q p f h)
 
   node-rule : (j : Part) (sc : Scope) → r.control ≡ evaluate j sc → (n : Node) → node_at w.tree j ≡ n → Follows (on_node w s r j sc n)
   node-rule j sc c no_node q = tt
   node-rule j sc c (type_node y) q = tt
   node-rule j sc c (number_node z) q = of_number c q
-  node-rule j sc c (boolean_node b) q = of-boolean c q
-  node-rule j sc c (variable_node x) q = value-rule (nearest s.cells sc x) (λ v h. of-variable c q h)
+  node-rule j sc c (boolean_node b) q = of_boolean c q
+  node-rule j sc c (variable_node x) q = value-rule (nearest s.cells sc x) (λ v h. of_variable c q h)
   node-rule j sc c (qualified_node m x) q = go (same_name pantry_name m) refl
     where
       go : (b : Bool) → same_name pantry_name m ≡ b →
           Follows (cond b (from_entry (entry_for w.pantry x)) (handing_value (from_module s (lookup r.module_scopes m) x)))
       go true p = entry-rule c q p (entry_for w.pantry x) refl
       go false p = module-rule c q p (lookup r.module_scopes m) refl
-  node-rule j sc c (is_zero_node k) q = of-form c (rw q refl)
-  node-rule j sc c (apply_node k l) q = of-form c (rw q refl)
-  node-rule j sc c (proc_node x t k) q = of-proc c q
-  node-rule j sc c (let_node x k l) q = of-form c (rw q refl)
-  node-rule j sc c (conditional_node k l n) q = of-form c (rw q refl)
-  node-rule j sc c (letrec_node u f x t k l) q = of-letrec c q
-  node-rule j sc c (binary_node o k l) q = of-form c (rw q refl)
+  node-rule j sc c (is_zero_node k) q = of_form c (rw q refl)
+  node-rule j sc c (apply_node k l) q = of_form c (rw q refl)
+  node-rule j sc c (proc_node x t k) q = of_proc c q
+  node-rule j sc c (let_node x k l) q = of_form c (rw q refl)
+  node-rule j sc c (conditional_node k l n) q = of_form c (rw q refl)
+  node-rule j sc c (letrec_node u f x t k l) q = of_letrec c q
+  node-rule j sc c (binary_node o k l) q = of_form c (rw q refl)
 
   first-rule : (d : ℕ) (j : Part) (sc : Scope) (v : Value) → r.control ≡ return v → Top s r d (await_first j sc) → (n : Node) →
       node_at w.tree j ≡ n → Follows (on_first d j sc v n)
@@ -154,19 +154,19 @@ module _ (w : Program) (s : Store) (r : Registers) where
   first-rule d j sc v c p (boolean_node b) q = tt
   first-rule d j sc v c p (variable_node x) q = tt
   first-rule d j sc v c p (qualified_node m x) q = tt
-  first-rule d j sc (integer z) c p (is_zero_node k) q = to-zero c p q
+  first-rule d j sc (integer z) c p (is_zero_node k) q = to_zero c p q
   first-rule d j sc (boolean b) c p (is_zero_node k) q = tt
   first-rule d j sc (closure i o) c p (is_zero_node k) q = tt
   first-rule d j sc (pantry_procedure i) c p (is_zero_node k) q = tt
-  first-rule d j sc v c p (apply_node k l) q = to-left c p (rw q refl)
+  first-rule d j sc v c p (apply_node k l) q = to_left c p (rw q refl)
   first-rule d j sc v c p (proc_node x t k) q = tt
-  first-rule d j sc v c p (let_node x k l) q = to-let c p q
+  first-rule d j sc v c p (let_node x k l) q = to_let c p q
   first-rule d j sc (integer z) c p (conditional_node k l n) q = tt
-  first-rule d j sc (boolean b) c p (conditional_node k l n) q = to-test c p q
+  first-rule d j sc (boolean b) c p (conditional_node k l n) q = to_test c p q
   first-rule d j sc (closure i o) c p (conditional_node k l n) q = tt
   first-rule d j sc (pantry_procedure i) c p (conditional_node k l n) q = tt
   first-rule d j sc v c p (letrec_node u f x t k l) q = tt
-  first-rule d j sc v c p (binary_node o k l) q = to-left c p (rw q refl)
+  first-rule d j sc v c p (binary_node o k l) q = to_left c p (rw q refl)
 
   applying-rule : (d : ℕ) (j k l : Part) (sc : Scope) (u v : Value) → r.control ≡ return v → Top s r d (await_second j sc u) →
       node_at w.tree j ≡ apply_node k l → Follows (applying w d u v)
@@ -176,19 +176,19 @@ module _ (w : Program) (s : Store) (r : Registers) where
     where
       go : (m : Option Procedure) → procedure_at (node_at w.tree i) ≡ m → Follows (calling d o v m)
       go none e = tt
-      go (some (procedure x b)) e = to-procedure c p q e
+      go (some (procedure x b)) e = to_procedure c p q e
   applying-rule d j k l sc (pantry_procedure i) (integer z) c p q = go (get_elem? w.pantry i) refl
     where
       go : (m : Option Entry) → get_elem? w.pantry i ≡ m → Follows (fetching d i z m)
       go none e = tt
-      go (some n) e = to-entry c p q e
+      go (some n) e = to_entry c p q e
   applying-rule d j k l sc (pantry_procedure i) (boolean b) c p q = tt
   applying-rule d j k l sc (pantry_procedure i) (closure m o) c p q = tt
   applying-rule d j k l sc (pantry_procedure i) (pantry_procedure m) c p q = tt
 
   computing-rule : (d : ℕ) (j k l : Part) (sc : Scope) (o : Operator) (u v : Value) → r.control ≡ return v →
       Top s r d (await_second j sc u) → node_at w.tree j ≡ binary_node o k l → Follows (computing d o u v)
-  computing-rule d j k l sc o (integer a) (integer b) c p q = to-right c p q
+  computing-rule d j k l sc o (integer a) (integer b) c p q = to_right c p q
   computing-rule d j k l sc o (integer a) (boolean b) c p q = tt
   computing-rule d j k l sc o (integer a) (closure i m) c p q = tt
   computing-rule d j k l sc o (integer a) (pantry_procedure i) c p q = tt
@@ -219,7 +219,7 @@ module _ (w : Program) (s : Store) (r : Registers) where
   frame-rule d v c e (await_second j sc u) q = second-rule d j sc u v c (record { count = e; frame = q }) (node_at w.tree j) refl
 
   ending-rule : (v : Value) → r.control ≡ return v → r.frame_count ≡ zero → (t : Target) → r.target ≡ t → Follows (ending v t)
-  ending-rule v c e (defining x sc) q = to-definition c e q
+  ending-rule v c e (defining x sc) q = to_definition c e q
   ending-rule v c e closing q = to_end c e q
 
   return-rule : (v : Value) → r.control ≡ return v → (d : ℕ) → r.frame_count ≡ d → Follows (on_return w s r v d)
@@ -271,21 +271,21 @@ module _ (w : Program) (s : Store) (r : Registers) where
 
   pub rule-asked : (a : Action) → Rule w s r a → rule_for w s r ≡ some a
   rule-asked a (of_number c q) = rw (c, q) refl
-  rule-asked a (of-boolean c q) = rw (c, q) refl
-  rule-asked a (of-variable c q h) = rw (c, q, h) refl
-  rule-asked a (of-proc c q) = rw (c, q) refl
-  rule-asked a (of-module c q p h k) = rw (c, q, p, h, k) refl
-  rule-asked a (of-plain-entry c q p h k) = rw (c, q, p, h, k) refl
-  rule-asked a (of-entry-by-item c q p h k) = rw (c, q, p, h, k) refl
-  rule-asked a (of-letrec c q) = rw (c, q) refl
-  rule-asked a (of-form {j = j} {k = k} {sc = sc} c h) = rw c (form-node j sc k (node_at w.tree j) h)
-  rule-asked a (to-left {d = d} {j = j} {l = l} {sc = sc} {v = v} c p h) =
+  rule-asked a (of_boolean c q) = rw (c, q) refl
+  rule-asked a (of_variable c q h) = rw (c, q, h) refl
+  rule-asked a (of_proc c q) = rw (c, q) refl
+  rule-asked a (of_module c q p h k) = rw (c, q, p, h, k) refl
+  rule-asked a (of_plain_entry c q p h k) = rw (c, q, p, h, k) refl
+  rule-asked a (of_entry_by_item c q p h k) = rw (c, q, p, h, k) refl
+  rule-asked a (of_letrec c q) = rw (c, q) refl
+  rule-asked a (of_form {j = j} {k = k} {sc = sc} c h) = rw c (form-node j sc k (node_at w.tree j) h)
+  rule-asked a (to_left {d = d} {j = j} {l = l} {sc = sc} {v = v} c p h) =
       rw (c, p.count, p.frame) (left-node d j sc v l (node_at w.tree j) h)
-  rule-asked a (to-zero c p q) = rw (c, p.count, p.frame, q) refl
-  rule-asked a (to-right c p q) = rw (c, p.count, p.frame, q) refl
-  rule-asked a (to-entry c p q h) = rw (c, p.count, p.frame, q, h) refl
-  rule-asked a (to-let c p q) = rw (c, p.count, p.frame, q) refl
-  rule-asked a (to-procedure c p q h) = rw (c, p.count, p.frame, q, h) refl
-  rule-asked a (to-test c p q) = rw (c, p.count, p.frame, q) refl
-  rule-asked a (to-definition c e q) = rw (c, e, q) refl
+  rule-asked a (to_zero c p q) = rw (c, p.count, p.frame, q) refl
+  rule-asked a (to_right c p q) = rw (c, p.count, p.frame, q) refl
+  rule-asked a (to_entry c p q h) = rw (c, p.count, p.frame, q, h) refl
+  rule-asked a (to_let c p q) = rw (c, p.count, p.frame, q) refl
+  rule-asked a (to_procedure c p q h) = rw (c, p.count, p.frame, q, h) refl
+  rule-asked a (to_test c p q) = rw (c, p.count, p.frame, q) refl
+  rule-asked a (to_definition c e q) = rw (c, e, q) refl
   rule-asked a (to_end c e q) = rw (c, e, q) refl

@@ -40,8 +40,8 @@ use Rattle.language.specs.Job.{
   log,
   AllSuit,
   Reached,
-  r-open,
-  r-advance,
+  r_open,
+  r_advance,
   answer_of,
   after,
   Suits,
@@ -124,12 +124,12 @@ module _ (plan : Plan) (stock : Stock) (points : List ProgramPoint) where
 
     reached-good : {cells : List Cell} {frames : List Frame} {m : Moment} → GoodAt (opened plan (store_of cells frames)) →
         Reached plan stock cells frames m → GoodAt m
-    reached-good h r-open = h
-    reached-good h (r-advance {m = m} p a q r) = good-after p a m q (reached-good h r)
+    reached-good h r_open = h
+    reached-good h (r_advance {m = m} p a q r) = good-after p a m q (reached-good h r)
 
 module _ {stock : Stock} {sheet : Sheet} {r : ExpandedType} (t : Passes stock sheet r) (plan : Plan) (st : SheetStands plan sheet) where
   abbrev environments : List Environment
-  environments = map (reveal_environment (reading_in t)) (sees_of t.typed.modules-typed)
+  environments = map (reveal_environment (reading_in t)) (sees_of t.typed.modules_typed)
 
   abbrev points : List ProgramPoint
   points = points_of plan.tasks plan.close environments
@@ -138,7 +138,7 @@ module _ {stock : Stock} {sheet : Sheet} {r : ExpandedType} (t : Passes stock sh
   all = reveal_modules (reading_in t) t.typed.all
 
   one-expression : OneExpression (setting_of t plan)
-  one-expression = parts-see plan.tree plan.tasks plan.close environments st.inner-first
+  one-expression = parts-see plan.tree plan.tasks plan.close environments st.inner_parts_first
 
   -- the opening
   opened-good : (cells : List Cell) (frames : List Frame) →
@@ -146,9 +146,9 @@ module _ {stock : Stock} {sheet : Sheet} {r : ExpandedType} (t : Passes stock sh
   opened-good cells frames =
       begin-good (setting_of t plan) (goal plan stock points one-expression all (revealed t)) (blanked (store_of cells frames)) 0 [] 0
       (opened-free cells frames) h-empty h-none
-      (sheet-tasks (reading_in t) st.closing-stands t.typed.closing-typed t.typed.modules-typed
-      (root-sees plan.tasks plan.close environments st.roots-ascend)
-      (readable t.typed.modules-typed) st.modules-stand)
+      (sheet-tasks (reading_in t) st.closing_stands t.typed.closing_typed t.typed.modules_typed
+      (root-sees plan.tasks plan.close environments st.roots_ascend)
+      (readable t.typed.modules_typed) st.modules_stand)
 
   logs-sound : (cells : List Cell) (frames : List Frame) (calls : Calls) → AllSuit stock calls →
       AllSound (setting_of t plan) (revealed t) (log plan (opened plan (store_of cells frames)) calls)
@@ -162,20 +162,20 @@ module _ {stock : Stock} {sheet : Sheet} {r : ExpandedType} (t : Passes stock sh
       (reached-good plan stock points one-expression all (revealed t) (opened-good cells frames) h)
 
 pub safety : Safety
-safety stock sheet r t = (readable t.typed.modules-typed, λ plan st. logs-sound t plan st)
+safety stock sheet r t = (readable t.typed.modules_typed, λ plan st. logs-sound t plan st)
 
 pub call-safety : CallSafety
 call-safety stock sheet r t plan st = calls-sound t plan st
 
 pub exchange : Exchange
 exchange stock sheet r t before after m body q (n, i, a) =
-    let same : ModulesTyped (stock_types stock) [] (before ++ (m ∷ after)) t.typed.all = rw q at t.typed.modules-typed in
+    let same : ModulesTyped (stock_types stock) [] (before ++ (m ∷ after)) t.typed.all = rw q at t.typed.modules_typed in
     let u : Passes stock (sheet_of (before ++ (with_body m body ∷ after)) sheet.closing) r =
     record {
       typed = record {
         all = t.typed.all;
-        modules-typed = exchanged (stock_types stock) after m body before [] n t.typed.all same i a;
-        closing-typed = t.typed.closing-typed;
+        modules_typed = exchanged (stock_types stock) after m body before [] n t.typed.all same i a;
+        closing_typed = t.typed.closing_typed;
       };
     } in
     (u, safety stock (sheet_of (before ++ (with_body m body ∷ after)) sheet.closing) r u)

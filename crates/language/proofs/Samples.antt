@@ -21,7 +21,7 @@ use Rattle.language.specs.Pantry.{
   Lawful,
 }
 use Rattle.language.specs.Syntax.{Exp, Sheet}
-use Rattle.language.specs.Tree.{SheetStands, Stands, b-none, b-skip, b-task, m-none, m-more}
+use Rattle.language.specs.Tree.{SheetStands, Stands, b_none, b_skip, b_task, m_none, m_more}
 use Rattle.language.specs.Typing.{
   ExpandedType,
   int,
@@ -31,24 +31,24 @@ use Rattle.language.specs.Typing.{
   Environment,
   stock_types,
   HasType,
-  t-number,
-  t-boolean,
-  t-variable,
-  t-qualified,
-  t-zero,
-  t-apply,
-  t-proc,
-  t-let,
-  t-conditional,
-  t-letrec,
-  t-binary,
+  t_number,
+  t_boolean,
+  t_variable,
+  t_qualified,
+  t_zero,
+  t_apply,
+  t_proc,
+  t_let,
+  t_conditional,
+  t_letrec,
+  t_binary,
 }
-use Rattle.language.specs.Modules.{made_type, made_value, b_end, b-type, b-value, m-end, m-opaque, m-value}
+use Rattle.language.specs.Modules.{made_type, made_value, b_end, b_type, b_value, m_end, m_opaque, m_value}
 use Rattle.language.specs.Check.{check_of}
 use Rattle.language.specs.Scopes.{nearest_in}
 use Rattle.language.specs.Machine.{Value, boolean, closure}
-use Rattle.language.specs.Fits.{Fits, f-integer, f-boolean, f-proc, f-rec, f-stock, ScopeFits, s-empty, s-value, s-letrec}
-use Rattle.language.specs.Safety.{Passes, AcceptsThere, i-none}
+use Rattle.language.specs.Fits.{Fits, f_integer, f_boolean, f_proc, f_rec, f_stock, ScopeFits, s_empty, s_value, s_letrec}
+use Rattle.language.specs.Safety.{Passes, AcceptsThere, i_none}
 use Rattle.language.specs.Samples.{
   g,
   zero_name,
@@ -86,35 +86,35 @@ refused sheet h r t = let k = check-complete [] sheet r t in let z : ◌≡◌ {
 
 salt-stands : SheetStands salt_plan salt_sheet
 salt-stands = record {
-  modules-stand = m-more m-none (b-skip (b-task refl
-      (b-task (1, 4, refl, refl, (2, 3, refl, refl, refl)) (b-task (6, 7, refl, refl, refl) b-none))));
-  closing-stands = (9, 12, refl, refl, (10, 11, refl, refl, refl));
-  roots-ascend = refl;
-  inner-first = refl;
+  modules_stand = m_more m_none (b_skip (b_task refl
+      (b_task (1, 4, refl, refl, (2, 3, refl, refl, refl)) (b_task (6, 7, refl, refl, refl) b_none))));
+  closing_stands = (9, 12, refl, refl, (10, 11, refl, refl, refl));
+  roots_ascend = refl;
+  inner_parts_first = refl;
 }
 
 zero-stands : SheetStands salt_zero_plan salt_zero
 zero-stands = record {
-  modules-stand = m-more m-none (b-skip (b-task refl
-      (b-task (1, 4, refl, refl, (2, 3, refl, refl, refl)) (b-task (6, 7, refl, refl, refl) b-none))));
-  closing-stands = refl;
-  roots-ascend = refl;
-  inner-first = refl;
+  modules_stand = m_more m_none (b_skip (b_task refl
+      (b_task (1, 4, refl, refl, (2, 3, refl, refl, refl)) (b_task (6, 7, refl, refl, refl) b_none))));
+  closing_stands = refl;
+  roots_ascend = refl;
+  inner_parts_first = refl;
 }
 
 other-stands : SheetStands other_plan other_sheet
 other-stands = record {
-  modules-stand = m-more m-none (b-skip (b-task refl
-      (b-task (1, 2, refl, refl, refl) (b-task (4, 8, refl, refl, (5, 6, 7, refl, refl, refl, refl)) b-none))));
-  closing-stands = (10, 13, refl, refl, (11, 12, refl, refl, refl));
-  roots-ascend = refl;
-  inner-first = refl;
+  modules_stand = m_more m_none (b_skip (b_task refl
+      (b_task (1, 2, refl, refl, refl) (b_task (4, 8, refl, refl, (5, 6, 7, refl, refl, refl, refl)) b_none))));
+  closing_stands = (10, 13, refl, refl, (11, 12, refl, refl, refl));
+  roots_ascend = refl;
+  inner_parts_first = refl;
 }
 
 doubling-stands : SheetStands doubling_plan doubling
 doubling-stands = record {
-  modules-stand = m-none;
-  closing-stands = (
+  modules_stand = m_none;
+  closing_stands = (
     0,
     1,
     12,
@@ -125,76 +125,76 @@ doubling-stands = record {
     (3, 4, 11, refl, (2, refl, refl), refl, (5, 10, refl, refl, (6, 9, refl, refl, (7, 8, refl, refl, refl)))),
     (13, 14, refl, refl, refl),
   );
-  roots-ascend = refl;
-  inner-first = refl;
+  roots_ascend = refl;
+  inner_parts_first = refl;
 }
 
-other-accepted : AcceptsThere [] [] salt_module other_body
+other_accepted : AcceptsThere [] [] salt_module other_body
 unfolding same_name key
-other-accepted = (
+other_accepted = (
   [],
-  i-none,
+  i_none,
   record {
     made = made_type g bool ∷ made_value zero_name bool ∷ made_value more (bool ⇒ bool) ∷ made_value mg (bool ⇒ int) ∷ [];
-    typed = b-type refl (b-value t-boolean (b-value (t-proc refl t-boolean)
-        (b-value (t-proc refl (t-conditional (t-variable refl) t-number t-number)) b_end)));
+    typed = b_type refl (b_value t_boolean (b_value (t_proc refl t_boolean)
+        (b_value (t_proc refl (t_conditional (t_variable refl) t_number t_number)) b_end)));
     apart = refl;
-    matched = m-opaque refl (m-value refl refl (m-value refl refl (m-value refl refl m-end)));
+    matched = m_opaque refl (m_value refl refl (m_value refl refl (m_value refl refl m_end)));
   },
 )
 
 -- the body of `returning y` has the type of y
 body-type : {e : Environment} {gs : Context} {b : ExpandedType} (y : Name) (p : Exp) → Stands (returning y).tree 1 p → HasType e gs p b →
     lookup gs y ≡ some b
-body-type y p s t-number = cc
-body-type y p s t-boolean = cc
-body-type y p s (t-variable {x = z} h) = let q : y ≡ z = cc in rw q h
-body-type y p s (t-qualified h) = cc
-body-type y p s (t-zero h) = let (k, q, r) = s in cc
-body-type y p s (t-apply h i) = let (k, l, q, r, v) = s in cc
-body-type y p s (t-proc h i) = let (k, l, q, r, v) = s in cc
-body-type y p s (t-let h i) = let (k, l, q, r, v) = s in cc
-body-type y p s (t-conditional h i j) = let (k, l, n, q, r, v, w) = s in cc
-body-type y p s (t-letrec a b h i) = let (u, t, k, l, q, r, v, w, z) = s in cc
-body-type y p s (t-binary h i) = let (k, l, q, r, v) = s in cc
+body-type y p s t_number = cc
+body-type y p s t_boolean = cc
+body-type y p s (t_variable {x = z} h) = let q : y ≡ z = cc in rw q h
+body-type y p s (t_qualified h) = cc
+body-type y p s (t_zero h) = let (k, q, r) = s in cc
+body-type y p s (t_apply h i) = let (k, l, q, r, v) = s in cc
+body-type y p s (t_proc h i) = let (k, l, q, r, v) = s in cc
+body-type y p s (t_let h i) = let (k, l, q, r, v) = s in cc
+body-type y p s (t_conditional h i j) = let (k, l, n, q, r, v, w) = s in cc
+body-type y p s (t_letrec a b h i) = let (u, t, k, l, q, r, v, w, z) = s in cc
+body-type y p s (t_binary h i) = let (k, l, q, r, v) = s in cc
 
 fitting : Fits (returning x) [] (closure 2 0) (int ⇒ int)
 unfolding same_name key
-fitting = f-proc refl refl s-empty refl (t-variable {x = x} refl)
+fitting = f_proc refl refl s_empty refl (t_variable {x = x} refl)
 
 not-fitting : ¬ Fits (returning x) [] (closure 2 0) (int ⇒ bool)
 unfolding same_name key
-not-fitting (f-proc {k = k} {p = p} {x = y} {g = gs} q e sc st ty) =
+not-fitting (f_proc {k = k} {p = p} {x = y} {g = gs} q e sc st ty) =
     let here : k ≡ 1 = cc in let same : y ≡ x = cc in
     let h : lookup (bind x int ∷ gs) x ≡ some bool = body-type x p (rw here at st) (rw same at ty) in
     let z : ◌≡◌ {A = ℕ} 0 1 = cc in omega arith
 
 kept-fitting : Fits (returning g) kept_flag (closure 2 1) (int ⇒ bool)
 unfolding same_name key
-kept-fitting = f-proc refl refl (s-value refl f-boolean s-empty) refl (t-variable {x = g} refl)
+kept-fitting = f_proc refl refl (s_value refl f_boolean s_empty) refl (t_variable {x = g} refl)
 
 -- the kept name has no other type than `bool`
 kept-type : (gs : Context) → ScopeFits (returning g) kept_flag 1 gs → lookup (bind x int ∷ gs) g ≡ some bool
 unfolding same_name key
-kept-type gs (s-value {x = y} {v = v} {a = a} q f s) = let same : y ≡ g = cc in let w : v ≡ boolean true = cc in
+kept-type gs (s_value {x = y} {v = v} {a = a} q f s) = let same : y ≡ g = cc in let w : v ≡ boolean true = cc in
     rw same (flag-type v a w f)
   where
     flag-type : (v : Value) (a : ExpandedType) → v ≡ boolean true → Fits (returning g) kept_flag v a → some a ≡ some bool
-    flag-type v a q f-integer = cc
-    flag-type v a q f-boolean = refl
-    flag-type v a q (f-proc h e s t u) = cc
-    flag-type v a q (f-rec u t c h e ta ha tb hb s st ty) = cc
-    flag-type v a q (f-stock h k) = cc
-kept-type gs (s-letrec q f s) = cc
+    flag-type v a q f_integer = cc
+    flag-type v a q f_boolean = refl
+    flag-type v a q (f_proc h e s t u) = cc
+    flag-type v a q (f_rec u t c h e ta ha tb hb s st ty) = cc
+    flag-type v a q (f_stock h k) = cc
+kept-type gs (s_letrec q f s) = cc
 
 not-kept-fitting : ¬ Fits (returning g) kept_flag (closure 2 1) (int ⇒ int)
 unfolding same_name key
-not-kept-fitting (f-proc {k = k} {p = p} {x = y} {g = gs} q e sc st ty) =
+not-kept-fitting (f_proc {k = k} {p = p} {x = y} {g = gs} q e sc st ty) =
     let here : k ≡ 1 = cc in let same : y ≡ x = cc in
     let h : lookup (bind x int ∷ gs) g ≡ some int = body-type g p (rw here at st) (rw same at ty) in
     let w = kept-type gs sc in
     let z : ◌≡◌ {A = ℕ} 0 1 = cc in omega arith
-not-kept-fitting (f-rec u t c q e ta ha tb hb s st ty) = let z : ◌≡◌ {A = ℕ} 0 1 = cc in omega arith
+not-kept-fitting (f_rec u t c q e ta ha tb hb s st ty) = let z : ◌≡◌ {A = ℕ} 0 1 = cc in omega arith
 
 -- the pantry is lawful
 abbrev kcal_entry : Entry
@@ -251,79 +251,79 @@ lawful = record {
   apart = refl;
   named = refl;
   by_kind = by_kind;
-  in-range = figures-in-range;
-  plain-reply =
+  figures_in_range = figures-in-range;
+  plain_reply =
       plain-replies;
 }
 
 pub samples : Samples
 unfolding same_name key pantry_name nearest_in
 samples = record {
-  thirty-three = record {
+  thirty_three = record {
     passes = passing [] _ _ refl;
     stands = record {
-      modules-stand = m-none;
-      closing-stands = refl;
-      roots-ascend = refl;
-      inner-first = refl;
+      modules_stand = m_none;
+      closing_stands = refl;
+      roots_ascend = refl;
+      inner_parts_first = refl;
     };
     answers = refl;
   };
-  thirty-three-going = refl;
-  plus-true = refused plus_true refl;
-  salt-sheet = record { passes = passing [] _ _ refl; stands = salt-stands; answers = refl };
-  salt-going = refl;
-  salt-zero = record { passes = passing [] _ _ refl; stands = zero-stands; answers = refl };
-  salt-plus-one = refused salt_plus_one refl;
-  other-accepted = other-accepted;
-  other-sheet = record { passes = passing [] _ _ refl; stands = other-stands; answers = refl };
-  minus-seven-by-two = record {
+  thirty_three_going = refl;
+  plus_true_untyped = refused plus_true refl;
+  salt_sheet_done = record { passes = passing [] _ _ refl; stands = salt-stands; answers = refl };
+  salt_going = refl;
+  salt_zero_done = record { passes = passing [] _ _ refl; stands = zero-stands; answers = refl };
+  salt_plus_one_untyped = refused salt_plus_one refl;
+  other_accepted = other_accepted;
+  other_sheet_done = record { passes = passing [] _ _ refl; stands = other-stands; answers = refl };
+  minus_seven_by_two = record {
     passes = passing [] _ _ refl;
     stands = record {
-      modules-stand = m-none;
-      closing-stands = (0, 1, refl, refl, refl);
-      roots-ascend = refl;
-      inner-first = refl;
+      modules_stand = m_none;
+      closing_stands = (0, 1, refl, refl, refl);
+      roots_ascend = refl;
+      inner_parts_first = refl;
     };
     answers = refl;
   };
-  seven-by-zero = record {
+  seven_by_zero = record {
     passes = passing [] _ _ refl;
     stands = record {
-      modules-stand = m-none;
-      closing-stands = (0, 1, refl, refl, refl);
-      roots-ascend = refl;
-      inner-first = refl;
+      modules_stand = m_none;
+      closing_stands = (0, 1, refl, refl, refl);
+      roots_ascend = refl;
+      inner_parts_first = refl;
     };
     answers = refl;
   };
-  seven-by-zero-stops = refl;
-  seven-by-zero-going = refl;
+  seven_by_zero_stops = refl;
+  seven_by_zero_going = refl;
   doubles = record { passes = passing [] _ _ refl; stands = doubling-stands; answers = refl };
-  no-items-lawful = lawful;
-  no-items = record {
+  no_items_lawful = lawful;
+  no_items_counted = record {
     passes = passing no_items _ _ refl;
     stands = record {
-      modules-stand = m-none;
-      closing-stands = refl;
-      roots-ascend = refl;
-      inner-first = refl;
+      modules_stand = m_none;
+      closing_stands = refl;
+      roots_ascend = refl;
+      inner_parts_first = refl;
     };
     answers = refl;
   };
-  no-kcal = record {
+  no_kcal = record {
     passes = passing no_items _ _ refl;
     stands = record {
-      modules-stand = m-none;
-      closing-stands = (0, 1, refl, refl, refl);
-      roots-ascend = refl;
-      inner-first = refl;
+      modules_stand = m_none;
+      closing_stands = (0, 1, refl, refl, refl);
+      roots_ascend = refl;
+      inner_parts_first = refl;
     };
     answers = refl;
   };
   link_up = refl;
   fits = fitting;
   fits_not = not-fitting;
-  kept-fits = kept-fitting;
-  kept-fits-not = not-kept-fitting;
+  kept_fits = kept-fitting;
+  kept_fits_not = not-kept-fitting;
 }

@@ -5,7 +5,7 @@ use mathlib.Core.Option.{Option, some}
 use Rattle.words.specs.Names.{Name, same_name}
 use Rattle.language.specs.Names.{bind, lookup, apart_from, distinct}
 use Rattle.language.specs.Syntax.{WrittenType, Exp, Declaration, Definition, Module}
-use Rattle.language.specs.Tree.{Part, Stands, Task, BodyStands, b-none, b-skip, b-task, ModulesStand, m-none, m-more}
+use Rattle.language.specs.Tree.{Part, Stands, Task, BodyStands, b_none, b_skip, b_task, ModulesStand, m_none, m_more}
 use Rattle.language.specs.Typing.{ExpandedType, Context, Interface, Environment, expand, stock_types, HasType, Interfaces}
 use Rattle.language.specs.Points.{point, points_of, environment_at}
 use Rattle.language.specs.Modules.{
@@ -15,27 +15,27 @@ use Rattle.language.specs.Modules.{
   made_value,
   made_name,
   Outward,
-  o-end,
-  o-opaque,
-  o-transparent,
-  o-value,
+  o_end,
+  o_opaque,
+  o_transparent,
+  o_value,
   BodyTyped,
   b_end,
-  b-type,
-  b-value,
+  b_type,
+  b_value,
   Matches,
-  m-end,
-  m-skip,
-  m-opaque,
-  m-transparent,
-  m-value,
+  m_end,
+  m_skip,
+  m_opaque,
+  m_transparent,
+  m_value,
   ModulesTyped,
   body_sees,
   opaques_of,
   hides_of,
   sees_of,
-  y-none,
-  y-module,
+  y_none,
+  y_module,
 }
 use Rattle.language.specs.Reading.{
   Reading,
@@ -100,18 +100,18 @@ module _ (ρ : Reading) where
       (g : Context) → reveal_context ρ ts ≡ reveal_context ρ us → distinct (map made_name ms) ≡ true → (k : Matches n s us ds ms) →
       RevealsModule ρ m (opaques_of k) → Covers (reveal_context ρ (values_made g ms)) (reveal_context ρ vs) → Outward n s m ts vs ds i →
       Covers (reveal_context ρ (values_made g ms)) (reveal_context ρ i.values)
-  covers-all g q d m-end rd c o-end = c
-  covers-all g q d (m-skip {k = made_type t a} {ms = ms} k) rd c o = covers-all g q (rest-distinct t (map made_name ms) d) k rd c o
-  covers-all g q d (m-skip {k = made_value x a} {ms = ms} k) rd c o =
+  covers-all g q d m_end rd c o_end = c
+  covers-all g q d (m_skip {k = made_type t a} {ms = ms} k) rd c o = covers-all g q (rest-distinct t (map made_name ms) d) k rd c o
+  covers-all g q d (m_skip {k = made_value x a} {ms = ms} k) rd c o =
       covers-all (bind x a ∷ g) q (rest-distinct x (map made_name ms) d) k rd c o
-  covers-all g q d (m-opaque {t = t} {t' = t'} {ms = ms} e k) rd c (o-opaque o) =
+  covers-all g q d (m_opaque {t = t} {t' = t'} {ms = ms} e k) rd c (o_opaque o) =
       covers-all g (ap₂ (λ (a : ExpandedType) (l : Context). bind t a ∷ l) rd.0 q) (rest-distinct t' (map made_name ms) d) k rd.1 c o
-  covers-all {n} {s} {ts = ts} {us = us} g q d (m-transparent {t = t} {t' = t'} {u = u} {a = b} {ms = ms} e h' k) rd c
-      (o-transparent {a = a} h o) =
+  covers-all {n} {s} {ts = ts} {us = us} g q d (m_transparent {t = t} {t' = t'} {u = u} {a = b} {ms = ms} e h' k) rd c
+      (o_transparent {a = a} h o) =
       covers-all g (ap₂ (λ (a : ExpandedType) (l : Context). bind t a ∷ l) (same-type ts us n s u a b q h h') q)
       (rest-distinct t' (map made_name ms) d) k rd c o
-  covers-all {n} {s} {ts = ts} {us = us} {vs = vs} g q d (m-value {x = x} {x' = x'} {u = u} {a = b} {ms = ms} e h' k) rd c
-      (o-value {a = a} h o) =
+  covers-all {n} {s} {ts = ts} {us = us} {vs = vs} g q d (m_value {x = x} {x' = x'} {u = u} {a = b} {ms = ms} e h' k) rd c
+      (o_value {a = a} h o) =
       let apart = both_true (apart_from x' (map made_name ms)) (distinct (map made_name ms)) d in
       let made : lookup (values_made (bind x' b ∷ g) ms) x' ≡ some b = value_made g ms x' b apart.0 in
       let seen : lookup (reveal_context ρ (values_made (bind x' b ∷ g) ms)) x' ≡ some (reveal ρ b) =
@@ -133,9 +133,9 @@ module _ (ρ : Reading) where
       (b : BodyTyped n (stock_types w.stock) ts g ds ms) → Listed w goal.close k (body_sees b ++ fs) →
       (Listed w goal.close rest fs → TasksTyped w goal (reveal_modules ρ n) (reveal_context ρ (values_made g ms)) rest) →
       BodyStands w.tree rest ds k → TasksTyped w goal (reveal_modules ρ n) (reveal_context ρ g) k
-  body-tasks fs b_end sub f b-none = f sub
-  body-tasks fs (b-type h b) sub f (b-skip l) = body-tasks fs b sub f l
-  body-tasks {w} {n = n} fs (b-value {ts = ts} t b) sub f (b-task {j = j} st l) =
+  body-tasks fs b_end sub f b_none = f sub
+  body-tasks fs (b_type h b) sub f (b_skip l) = body-tasks fs b sub f l
+  body-tasks {w} {n = n} fs (b_value {ts = ts} t b) sub f (b_task {j = j} st l) =
       k-define (record {
         at = sub j (reveal_environment ρ (seeing ts n (stock_types w.stock))) (Memᴰ.head refl);
         earlier = λ m i h. h;
@@ -154,14 +154,14 @@ module _ (ρ : Reading) where
       {n : Interfaces} {ms : List Module} {k : List Task} (t : ModulesTyped (stock_types w.stock) n ms all) →
       Listed w close k (sees_of t) → Reveals ρ (hides_of t) → ModulesStand w.tree ms k →
       TasksTyped w (record { close = close; all = reveal_modules ρ all; result = reveal ρ r }) (reveal_modules ρ n) [] k
-  sheet-tasks {w} {close} {all = all} c ty y-none sub rd m-none =
+  sheet-tasks {w} {close} {all = all} c ty y_none sub rd m_none =
       k-close (record {
         at = sub close (reveal_environment ρ (seeing [] all (stock_types w.stock))) (Memᴰ.head refl);
         earlier = λ m i h. h;
         stock-is = stock-read ρ w.stock;
       })
       (typed-rows close c (typed-read ρ ty))
-  sheet-tasks {w} c ty (y-module {n = n} {m = m} {i = i} f p d o a t) sub rd (m-more l b) =
+  sheet-tasks {w} c ty (y_module {n = n} {m = m} {i = i} f p d o a t) sub rd (m_more l b) =
       body-tasks (sees_of t) a.typed sub
       (λ sub'. k-finish (reveal_interface ρ i) (covers-all [] refl a.apart a.matched rd.0 (λ x b h. cc) o)
       (rw (sym (modules-append n m.name i)) (sheet-tasks c ty t sub' rd.1 l)))

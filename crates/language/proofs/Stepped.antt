@@ -44,7 +44,7 @@ use Rattle.language.specs.Machine.{
   cell_free,
   frame_free,
 }
-use Rattle.language.specs.Rules.{Rule, Steps, by-rule, by-none}
+use Rattle.language.specs.Rules.{Rule, Steps, by_rule, by_none}
 use Rattle.language.specs.Step.{
   rule_for,
   performing,
@@ -53,10 +53,10 @@ use Rattle.language.specs.Step.{
   Stop29,
   binds_cell,
   Stops,
-  for-rule,
-  for-result,
-  for-cell,
-  for-frame,
+  for_rule,
+  for_result,
+  for_cell,
+  for_frame,
   StopsAgree,
 }
 use Rattle.language.proofs.Ruled.{rule-of, rule-asked}
@@ -130,15 +130,15 @@ module _ (w : Program) (s : Store) (r : Registers) where
   steps-there = go (rule_for w s r) refl
     where
       go : (m : Option Action) → rule_for w s r ≡ m → Steps w s r (performing w s r m)
-      go none q = by-none (asked-none q)
-      go (some a) q = by-rule (rule-of w s r a q)
+      go none q = by_none (asked-none q)
+      go (some a) q = by_rule (rule-of w s r a q)
 
   steps-only : (o : Outcome) → Steps w s r o → step w s r ≡ o
-  steps-only o (by-rule {a = a} h) = rw (rule-asked w s r a h) refl
-  steps-only o (by-none f) = rw (none-asked f) refl
+  steps-only o (by_rule {a = a} h) = rw (rule-asked w s r a h) refl
+  steps-only o (by_none f) = rw (none-asked f) refl
 
   no-rule : step w s r ≡ stop no_rule → (a : Action) → ¬ Rule w s r a
-  no-rule q a h = performed-stop a (sym (steps-only (perform w s r a) (by-rule h)) ∙ q)
+  no-rule q a h = performed-stop a (sym (steps-only (perform w s r a) (by_rule h)) ∙ q)
 
   -- ── why a step stops ──
 
@@ -151,19 +151,19 @@ module _ (w : Program) (s : Store) (r : Registers) where
   handed f (fails m) k q = let e : m ≡ k = cc in ap fails e
 
   rule-stops : (a : Action) (k : Reason) → Rule w s r a → perform w s r a ≡ stop k → Stops w s r k
-  rule-stops (hands f x) k h q = for-result h (handed f (try w.pantry x) k q)
-  rule-stops (binds f c l) k h q = let (e, z) = guarded (cell_free s r) _ _ no_cell k q in rw (sym z) (for-cell h refl e)
+  rule-stops (hands f x) k h q = for_result h (handed f (try w.pantry x) k q)
+  rule-stops (binds f c l) k h q = let (e, z) = guarded (cell_free s r) _ _ no_cell k q in rw (sym z) (for_cell h refl e)
   rule-stops (branches d l sc) k h q = let z : ◌≡◌ {A = ℕ} 0 1 = cc in absurd (omega arith)
-  rule-stops (puts_down f l sc) k h q = let (e, z) = guarded (frame_free s r) _ _ no_frame k q in rw (sym z) (for-frame h e)
+  rule-stops (puts_down f l sc) k h q = let (e, z) = guarded (frame_free s r) _ _ no_frame k q in rw (sym z) (for_frame h e)
   rule-stops (replaces d f l sc) k h q = let z : ◌≡◌ {A = ℕ} 0 1 = cc in absurd (omega arith)
-  rule-stops (defines x v sc) k h q = let (e, z) = guarded (cell_free s r) _ _ no_cell k q in rw (sym z) (for-cell h refl e)
+  rule-stops (defines x v sc) k h q = let (e, z) = guarded (cell_free s r) _ _ no_cell k q in rw (sym z) (for_cell h refl e)
   rule-stops (ends v) k h q = let z : ◌≡◌ {A = ℕ} 0 1 = cc in absurd (omega arith)
 
   stops-there : (k : Reason) → step w s r ≡ stop k → Stops w s r k
   stops-there k q = go (rule_for w s r) refl q
     where
       go : (m : Option Action) → rule_for w s r ≡ m → performing w s r m ≡ stop k → Stops w s r k
-      go none e q = let z : no_rule ≡ k = cc in rw (sym z) (for-rule (asked-none e))
+      go none e q = let z : no_rule ≡ k = cc in rw (sym z) (for_rule (asked-none e))
       go (some a) e q = rule-stops a k (rule-of w s r a e) q
 
   no-cell : (a : Action) → binds_cell a ≡ true → cell_free s r ≡ false → perform w s r a ≡ stop no_cell
@@ -176,16 +176,16 @@ module _ (w : Program) (s : Store) (r : Registers) where
   no-cell (ends v) b q = cc
 
   stops-only : (k : Reason) → Stops w s r k → step w s r ≡ stop k
-  stops-only k (for-rule f) = steps-only (stop no_rule) (by-none f)
-  stops-only k (for-result {f = f} {x = x} h q) = steps-only (perform w s r (hands f x)) (by-rule h) ∙ rw q refl
-  stops-only k (for-cell {a = a} h b q) = steps-only (perform w s r a) (by-rule h) ∙ no-cell a b q
-  stops-only k (for-frame {f = f} {k = l} {sc = sc} h q) = steps-only (perform w s r (puts_down f l sc)) (by-rule h) ∙ rw q refl
+  stops-only k (for_rule f) = steps-only (stop no_rule) (by_none f)
+  stops-only k (for_result {f = f} {x = x} h q) = steps-only (perform w s r (hands f x)) (by_rule h) ∙ rw q refl
+  stops-only k (for_cell {a = a} h b q) = steps-only (perform w s r a) (by_rule h) ∙ no-cell a b q
+  stops-only k (for_frame {f = f} {k = l} {sc = sc} h q) = steps-only (perform w s r (puts_down f l sc)) (by_rule h) ∙ rw q refl
 
 pub step-agrees : StepAgrees
 step-agrees w s r o = ((λ q. rw q at (steps-there w s r)), steps-only w s r o)
 
 pub stop-29 : Stop29
-stop-29 w s r = (no-rule w s r, λ f. steps-only w s r (stop no_rule) (by-none f))
+stop-29 w s r = (no-rule w s r, λ f. steps-only w s r (stop no_rule) (by_none f))
 
 pub stops-agree : StopsAgree
 stops-agree w s r k = (stops-there w s r k, stops-only w s r k)

@@ -68,5 +68,5 @@ CheckAgrees = (s : Context) (sheet : Sheet) (r : ExpandedType) → (check_of s s
 
 -- typing is unambiguous: an expression and a sheet have one type at most
 pub record OneType : Type 0 where
-  pub of-expression : (e : Environment) (g : Context) (p : Exp) (a b : ExpandedType) → HasType e g p a → HasType e g p b → a ≡ b
-  pub of-sheet : (s : Context) (sheet : Sheet) (a b : ExpandedType) → SheetTyped s sheet a → SheetTyped s sheet b → a ≡ b
+  pub of_expression : (e : Environment) (g : Context) (p : Exp) (a b : ExpandedType) → HasType e g p a → HasType e g p b → a ≡ b
+  pub of_sheet : (s : Context) (sheet : Sheet) (a b : ExpandedType) → SheetTyped s sheet a → SheetTyped s sheet b → a ≡ b

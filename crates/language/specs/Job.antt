@@ -118,8 +118,8 @@ Going (stopped k) = ⊥
 -- What an advance by a, from n steps on, counts: never past the limit, never more than the allowance, and all of that, up to the limit,
 -- while the job goes on.
 pub record Counted (n a : ℕ) (m : Moment) : Type 0 where
-  pub within-limit : n ≤ step_limit → m.job.steps ≤ step_limit
-  pub within-allowance : m.job.steps ≤ n + a
+  pub within_limit : n ≤ step_limit → m.job.steps ≤ step_limit
+  pub within_allowance : m.job.steps ≤ n + a
   pub going_on : n ≤ step_limit → Going m.job.status → m.job.steps ≡ min (n + a) step_limit
 
 -- so counts every advance
@@ -164,16 +164,16 @@ call_count (advance p a cs) = suc (call_count cs)
 -- The laws of calls. A status call and a finish answer and change nothing. Two advances one behind the other leave what one by both
 -- allowances leaves, and so do all calls behind them. Once a job has ended, each call answers its end and leaves the tables.
 pub record CallsLaw : Type 0 where
-  pub status-keeps : (plan : Plan) (m : Moment) (cs : Calls) → log plan m (status cs) ≡ answer_at m ∷ log plan m cs
-  pub finish-keeps : (plan : Plan) (m : Moment) → log plan m finish ≡ answer_at m ∷ []
-  pub advances-join : (plan : Plan) (m : Moment) (p : Pantry) (a b : ℕ) (cs : Calls) →
+  pub status_keeps : (plan : Plan) (m : Moment) (cs : Calls) → log plan m (status cs) ≡ answer_at m ∷ log plan m cs
+  pub finish_keeps : (plan : Plan) (m : Moment) → log plan m finish ≡ answer_at m ∷ []
+  pub advances_join : (plan : Plan) (m : Moment) (p : Pantry) (a b : ℕ) (cs : Calls) →
       log plan m (advance p a (advance p b cs)) ≡ answer_at (after plan p a m) ∷ log plan m (advance p (a + b) cs)
-  pub end-repeats : (plan : Plan) (m : Moment) (cs : Calls) → Ended m.job.status →
+  pub end_repeats : (plan : Plan) (m : Moment) (cs : Calls) → Ended m.job.status →
       log plan m cs ≡ replicate (call_count cs) (answer_at m)
 
 -- a pantry of these names and kinds, that replies as they say
 pub record Suits (stock : Stock) (p : Pantry) : Type 0 where
-  pub same-stock : stock_of p ≡ stock
+  pub same_stock : stock_of p ≡ stock
   pub by_kind : RepliesByKind p
 
 -- every lawful pantry suits its own names and kinds
@@ -189,6 +189,6 @@ AllSuit k (advance p a cs) = Suits k p × AllSuit k cs
 
 -- a moment that calls have led to from an opening on these tables, with pantries that suit
 pub data Reached (plan : Plan) (stock : Stock) (cells : List Cell) (frames : List Frame) : Moment → Type 0 where
-  r-open : Reached plan stock cells frames (opened plan (store_of cells frames))
-  r-advance : {m : Moment} (p : Pantry) (a : ℕ) → Suits stock p → Reached plan stock cells frames m →
+  r_open : Reached plan stock cells frames (opened plan (store_of cells frames))
+  r_advance : {m : Moment} (p : Pantry) (a : ℕ) → Suits stock p → Reached plan stock cells frames m →
       Reached plan stock cells frames (after plan p a m)

@@ -86,10 +86,10 @@ is_negative (negsuc n) = true
 -- The law of `/`: q has the size of the exact quotient without its fraction, and is not negative where a and b have one sign, nor
 -- positive where they have not.
 pub record TowardZero (a b q : ℤ) : Type 0 where
-  pub not-over : unsigned_abs q * unsigned_abs b ≤ unsigned_abs a
-  pub not-under : unsigned_abs a < suc (unsigned_abs q) * unsigned_abs b
-  pub one-sign : is_negative a ≡ is_negative b → is_negative q ≡ false
-  pub two-signs : is_negative a ≡ not (is_negative b) → is_negative (neg_ℤ q) ≡ false
+  pub not_over : unsigned_abs q * unsigned_abs b ≤ unsigned_abs a
+  pub not_under : unsigned_abs a < suc (unsigned_abs q) * unsigned_abs b
+  pub one_sign : is_negative a ≡ is_negative b → is_negative q ≡ false
+  pub two_signs : is_negative a ≡ not (is_negative b) → is_negative (neg_ℤ q) ≡ false
 
 -- and so it is of every two figures, the second not 0
 abbrev pub DivisionLaw : Type 0

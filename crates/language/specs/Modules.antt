@@ -41,51 +41,51 @@ made_name (made_value x a) = x
 -- `Outward n s m ts vs ds i`: with ts and vs declared so far, the declarations ds of module m make the interface i, in which an opaque
 -- type is hidden and a transparent one is its expansion
 pub data Outward (n : Interfaces) (s : Context) (m : Name) : Context → Context → List Declaration → Interface → Type 0 where
-  o-end : {ts vs : Context} → Outward n s m ts vs [] (record { types = ts; values = vs })
-  o-opaque : {ts vs : Context} {t : Name} {ds : List Declaration} {i : Interface} →
+  o_end : {ts vs : Context} → Outward n s m ts vs [] (record { types = ts; values = vs })
+  o_opaque : {ts vs : Context} {t : Name} {ds : List Declaration} {i : Interface} →
       Outward n s m (bind t (hidden m t) ∷ ts) vs ds i → Outward n s m ts vs (opaque_type t ∷ ds) i
-  o-transparent : {ts vs : Context} {t : Name} {u : WrittenType} {a : ExpandedType} {ds : List Declaration} {i : Interface} →
+  o_transparent : {ts vs : Context} {t : Name} {u : WrittenType} {a : ExpandedType} {ds : List Declaration} {i : Interface} →
       expand (seeing ts n s) u ≡ some a → Outward n s m (bind t a ∷ ts) vs ds i → Outward n s m ts vs (transparent_type t u ∷ ds) i
-  o-value : {ts vs : Context} {x : Name} {u : WrittenType} {a : ExpandedType} {ds : List Declaration} {i : Interface} →
+  o_value : {ts vs : Context} {x : Name} {u : WrittenType} {a : ExpandedType} {ds : List Declaration} {i : Interface} →
       expand (seeing ts n s) u ≡ some a → Outward n s m ts (bind x a ∷ vs) ds i → Outward n s m ts vs (value_of_type x u ∷ ds) i
 
 -- `BodyTyped n s ts g ds ms`: after definitions that made the types ts and the values g, the definitions ds make ms
 pub data BodyTyped (n : Interfaces) (s : Context) : Context → Context → List Definition → List Made → Type 0 where
   b_end : {ts g : Context} → BodyTyped n s ts g [] []
-  b-type : {ts g : Context} {t : Name} {u : WrittenType} {a : ExpandedType} {ds : List Definition} {ms : List Made} →
+  b_type : {ts g : Context} {t : Name} {u : WrittenType} {a : ExpandedType} {ds : List Definition} {ms : List Made} →
       expand (seeing ts n s) u ≡ some a → BodyTyped n s (bind t a ∷ ts) g ds ms → BodyTyped n s ts g (type_is t u ∷ ds) (made_type t a ∷ ms)
-  b-value : {ts g : Context} {x : Name} {p : Exp} {a : ExpandedType} {ds : List Definition} {ms : List Made} →
+  b_value : {ts g : Context} {x : Name} {p : Exp} {a : ExpandedType} {ds : List Definition} {ms : List Made} →
       HasType (seeing ts n s) g p a → BodyTyped n s ts (bind x a ∷ g) ds ms → BodyTyped n s ts g (value_is x p ∷ ds) (made_value x a ∷ ms)
 
 -- the environment of each expression of the body, in order
 abbrev pub body_sees : {n : Interfaces} {s ts g : Context} {ds : List Definition} {ms : List Made} →
     BodyTyped n s ts g ds ms → List Environment
 body_sees b_end = []
-body_sees (b-type h b) = body_sees b
-body_sees {n} {s} (b-value {ts = ts} h b) = seeing ts n s ∷ body_sees b
+body_sees (b_type h b) = body_sees b
+body_sees {n} {s} (b_value {ts = ts} h b) = seeing ts n s ∷ body_sees b
 
 -- `Matches n s ts ds ms`: one after another, the declarations ds find their definitions in ms, each further on than the last. A type name
 -- of the interface stands for what the body made of it (ts, for those matched so far), and by that reading the types agree.
 pub data Matches (n : Interfaces) (s : Context) : Context → List Declaration → List Made → Type 0 where
-  m-end : {ts : Context} {ms : List Made} → Matches n s ts [] ms
-  m-skip : {ts : Context} {d : Declaration} {ds : List Declaration} {k : Made} {ms : List Made} →
+  m_end : {ts : Context} {ms : List Made} → Matches n s ts [] ms
+  m_skip : {ts : Context} {d : Declaration} {ds : List Declaration} {k : Made} {ms : List Made} →
       Matches n s ts (d ∷ ds) ms → Matches n s ts (d ∷ ds) (k ∷ ms)
-  m-opaque : {ts : Context} {t t' : Name} {a : ExpandedType} {ds : List Declaration} {ms : List Made} → same_name t' t ≡ true →
+  m_opaque : {ts : Context} {t t' : Name} {a : ExpandedType} {ds : List Declaration} {ms : List Made} → same_name t' t ≡ true →
       Matches n s (bind t a ∷ ts) ds ms → Matches n s ts (opaque_type t ∷ ds) (made_type t' a ∷ ms)
-  m-transparent : {ts : Context} {t t' : Name} {u : WrittenType} {a : ExpandedType} {ds : List Declaration} {ms : List Made} →
+  m_transparent : {ts : Context} {t t' : Name} {u : WrittenType} {a : ExpandedType} {ds : List Declaration} {ms : List Made} →
       same_name t' t ≡ true → expand (seeing ts n s) u ≡ some a →
       Matches n s (bind t a ∷ ts) ds ms → Matches n s ts (transparent_type t u ∷ ds) (made_type t' a ∷ ms)
-  m-value : {ts : Context} {x x' : Name} {u : WrittenType} {a : ExpandedType} {ds : List Declaration} {ms : List Made} →
+  m_value : {ts : Context} {x x' : Name} {u : WrittenType} {a : ExpandedType} {ds : List Declaration} {ms : List Made} →
       same_name x' x ≡ true → expand (seeing ts n s) u ≡ some a →
       Matches n s ts ds ms → Matches n s ts (value_of_type x u ∷ ds) (made_value x' a ∷ ms)
 
 -- the opaque types, each with what the body made of it
 abbrev pub opaques_of : {n : Interfaces} {s ts : Context} {ds : List Declaration} {ms : List Made} → Matches n s ts ds ms → Context
-opaques_of m-end = []
-opaques_of (m-skip m) = opaques_of m
-opaques_of (m-opaque {t = t} {a = a} e m) = bind t a ∷ opaques_of m
-opaques_of (m-transparent e h m) = opaques_of m
-opaques_of (m-value e h m) = opaques_of m
+opaques_of m_end = []
+opaques_of (m_skip m) = opaques_of m
+opaques_of (m_opaque {t = t} {a = a} e m) = bind t a ∷ opaques_of m
+opaques_of (m_transparent e h m) = opaques_of m
+opaques_of (m_value e h m) = opaques_of m
 
 -- the interface with the declarations ds accepts the body: it is typed, no two of its names are the same, and the declarations match it
 pub record Accepts (n : Interfaces) (s : Context) (ds : List Declaration) (body : List Definition) : Type 0 where
@@ -96,24 +96,24 @@ pub record Accepts (n : Interfaces) (s : Context) (ds : List Declaration) (body 
 
 -- `ModulesTyped s n ms n'`: after modules with the interfaces n, the modules ms are typed, and the interfaces are n' then
 pub data ModulesTyped (s : Context) : Interfaces → List Module → Interfaces → Type 0 where
-  y-none : {n : Interfaces} → ModulesTyped s n [] n
-  y-module : {n n' : Interfaces} {m : Module} {ms : List Module} {i : Interface} → lookup n m.name ≡ none →
+  y_none : {n : Interfaces} → ModulesTyped s n [] n
+  y_module : {n n' : Interfaces} {m : Module} {ms : List Module} {i : Interface} → lookup n m.name ≡ none →
       same_name pantry_name m.name ≡ false → distinct (map declared_name m.interface) ≡ true →
       Outward n s m.name [] [] m.interface i → Accepts n s m.interface m.body →
       ModulesTyped s (n ++ (bind m.name i ∷ [])) ms n' → ModulesTyped s n (m ∷ ms) n'
 
 -- each module with its opaque types and what its body made of them
 abbrev pub hides_of : {s : Context} {n n' : Interfaces} {ms : List Module} → ModulesTyped s n ms n' → List (Binding Context)
-hides_of y-none = []
-hides_of (y-module {m = m} f g d o a t) = bind m.name (opaques_of a.matched) ∷ hides_of t
+hides_of y_none = []
+hides_of (y_module {m = m} f g d o a t) = bind m.name (opaques_of a.matched) ∷ hides_of t
 
 -- the environment of each expression of the modules, in order, and of the closing one
 abbrev pub sees_of : {s : Context} {n n' : Interfaces} {ms : List Module} → ModulesTyped s n ms n' → List Environment
-sees_of {s} (y-none {n = n}) = seeing [] n s ∷ []
-sees_of (y-module f g d o a t) = body_sees a.typed ++ sees_of t
+sees_of {s} (y_none {n = n}) = seeing [] n s ∷ []
+sees_of (y_module f g d o a t) = body_sees a.typed ++ sees_of t
 
 -- with these names of the pantry the sheet has the type r, that of its closing expression
 pub record SheetTyped (s : Context) (sheet : Sheet) (r : ExpandedType) : Type 0 where
   pub all : Interfaces
-  pub modules-typed : ModulesTyped s [] sheet.modules all
-  pub closing-typed : HasType (seeing [] all s) [] sheet.closing r
+  pub modules_typed : ModulesTyped s [] sheet.modules all
+  pub closing_typed : HasType (seeing [] all s) [] sheet.closing r

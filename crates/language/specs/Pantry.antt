@@ -101,6 +101,6 @@ pub record Lawful (p : Pantry) : Type 0 where
   pub apart : distinct (map entry_name p) ≡ true
   pub named : lawful_names (map entry_name p) ≡ true
   pub by_kind : RepliesByKind p
-  pub in-range : (i : EntryNumber) (z y : ℤ) → fetch p i z ≡ some (figure_reply y) → in_range y ≡ true
-  pub plain-reply : (i : EntryNumber) (e : Entry) → get_elem? p i ≡ some e → by_item e.kind ≡ false →
+  pub figures_in_range : (i : EntryNumber) (z y : ℤ) → fetch p i z ≡ some (figure_reply y) → in_range y ≡ true
+  pub plain_reply : (i : EntryNumber) (e : Entry) → get_elem? p i ≡ some e → by_item e.kind ≡ false →
       (a : Reply) × ((z : ℤ) → in_range z ≡ true → fetch p i z ≡ some a)

@@ -140,55 +140,55 @@ pub data Rule (w : Program) (s : Store) (r : Registers) : Action → Type 0 wher
   -- literals, names and procedures: a value at once; a procedure remembers the scope it was made in
   of_number : {j : Part} {sc : Scope} {z : ℤ} → r.control ≡ evaluate j sc → node_at w.tree j ≡ number_node z →
       Rule w s r (hands kept (plain (integer z)))
-  of-boolean : {j : Part} {sc : Scope} {b : Bool} → r.control ≡ evaluate j sc → node_at w.tree j ≡ boolean_node b →
+  of_boolean : {j : Part} {sc : Scope} {b : Bool} → r.control ≡ evaluate j sc → node_at w.tree j ≡ boolean_node b →
       Rule w s r (hands kept (plain (boolean b)))
-  of-variable : {j : Part} {sc : Scope} {x : Name} {v : Value} → r.control ≡ evaluate j sc → node_at w.tree j ≡ variable_node x →
+  of_variable : {j : Part} {sc : Scope} {x : Name} {v : Value} → r.control ≡ evaluate j sc → node_at w.tree j ≡ variable_node x →
       nearest s.cells sc x ≡ some v → Rule w s r (hands kept (plain v))
-  of-proc : {j : Part} {sc : Scope} {x : Name} {t k : Part} → r.control ≡ evaluate j sc → node_at w.tree j ≡ proc_node x t k →
+  of_proc : {j : Part} {sc : Scope} {x : Name} {t k : Part} → r.control ≡ evaluate j sc → node_at w.tree j ≡ proc_node x t k →
       Rule w s r (hands kept (plain (closure j sc)))
-  of-module : {j : Part} {sc o : Scope} {m x : Name} {v : Value} → r.control ≡ evaluate j sc → node_at w.tree j ≡ qualified_node m x →
+  of_module : {j : Part} {sc o : Scope} {m x : Name} {v : Value} → r.control ≡ evaluate j sc → node_at w.tree j ≡ qualified_node m x →
       same_name pantry_name m ≡ false → lookup r.module_scopes m ≡ some o → nearest s.cells o x ≡ some v →
       Rule w s r (hands kept (plain v))
   -- entries of the pantry: a plain one is asked at argument 0, one by item becomes a procedure
-  of-plain-entry : {j : Part} {sc : Scope} {m x : Name} {i : EntryNumber} {k : Kind} → r.control ≡ evaluate j sc →
+  of_plain_entry : {j : Part} {sc : Scope} {m x : Name} {i : EntryNumber} {k : Kind} → r.control ≡ evaluate j sc →
       node_at w.tree j ≡ qualified_node m x → same_name pantry_name m ≡ true → entry_for w.pantry x ≡ some (numbered i k) →
       by_item k ≡ false → Rule w s r (hands kept (fetched i (pos 0)))
-  of-entry-by-item : {j : Part} {sc : Scope} {m x : Name} {i : EntryNumber} {k : Kind} → r.control ≡ evaluate j sc →
+  of_entry_by_item : {j : Part} {sc : Scope} {m x : Name} {i : EntryNumber} {k : Kind} → r.control ≡ evaluate j sc →
       node_at w.tree j ≡ qualified_node m x → same_name pantry_name m ≡ true → entry_for w.pantry x ≡ some (numbered i k) →
       by_item k ≡ true → Rule w s r (hands kept (plain (pantry_procedure i)))
   -- a recursive procedure gets its cell, and evaluation goes on with the part in which it is known
-  of-letrec : {j : Part} {sc : Scope} {f x : Name} {u t k l : Part} → r.control ≡ evaluate j sc →
+  of_letrec : {j : Part} {sc : Scope} {f x : Name} {u t k l : Part} → r.control ≡ evaluate j sc →
       node_at w.tree j ≡ letrec_node u f x t k l → Rule w s r (binds kept (letrec_cell f j sc) l)
   -- every form that needs the value of a part first: it waits in a frame
-  of-form : {j k : Part} {sc : Scope} → r.control ≡ evaluate j sc → first_part (node_at w.tree j) ≡ some k →
+  of_form : {j k : Part} {sc : Scope} → r.control ≡ evaluate j sc → first_part (node_at w.tree j) ≡ some k →
       Rule w s r (puts_down (await_first j sc) k sc)
   -- the first of two values has come: the frame keeps it and waits for the second
-  to-left : {d : ℕ} {j l : Part} {sc : Scope} {v : Value} → r.control ≡ return v → Top s r d (await_first j sc) →
+  to_left : {d : ℕ} {j l : Part} {sc : Scope} {v : Value} → r.control ≡ return v → Top s r d (await_first j sc) →
       second_part (node_at w.tree j) ≡ some l → Rule w s r (replaces d (await_second j sc v) l sc)
   -- the last value that a frame waited for has come, and the frame goes: with a result,
-  to-zero : {d : ℕ} {j k : Part} {sc : Scope} {z : ℤ} → r.control ≡ return (integer z) → Top s r d (await_first j sc) →
+  to_zero : {d : ℕ} {j k : Part} {sc : Scope} {z : ℤ} → r.control ≡ return (integer z) → Top s r d (await_first j sc) →
       node_at w.tree j ≡ is_zero_node k → Rule w s r (hands (removed d) (plain (boolean (is_zeroℤ z))))
-  to-right : {d : ℕ} {j k l : Part} {sc : Scope} {o : Operator} {a b : ℤ} → r.control ≡ return (integer b) →
+  to_right : {d : ℕ} {j k l : Part} {sc : Scope} {o : Operator} {a b : ℤ} → r.control ≡ return (integer b) →
       Top s r d (await_second j sc (integer a)) → node_at w.tree j ≡ binary_node o k l → Rule w s r (hands (removed d) (operation o a b))
   -- with the pantry's answer,
-  to-entry : {d : ℕ} {j k l : Part} {sc : Scope} {i : EntryNumber} {z : ℤ} {e : Entry} → r.control ≡ return (integer z) →
+  to_entry : {d : ℕ} {j k l : Part} {sc : Scope} {i : EntryNumber} {z : ℤ} {e : Entry} → r.control ≡ return (integer z) →
       Top s r d (await_second j sc (pantry_procedure i)) → node_at w.tree j ≡ apply_node k l → get_elem? w.pantry i ≡ some e →
       Rule w s r (hands (removed d) (fetched i z))
   -- with a new binding and the body that sees it (a procedure's body in the scope that the procedure remembers),
-  to-let : {d : ℕ} {j k l : Part} {sc : Scope} {x : Name} {v : Value} → r.control ≡ return v → Top s r d (await_first j sc) →
+  to_let : {d : ℕ} {j k l : Part} {sc : Scope} {x : Name} {v : Value} → r.control ≡ return v → Top s r d (await_first j sc) →
       node_at w.tree j ≡ let_node x k l → Rule w s r (binds (removed d) (value_cell x v sc) l)
-  to-procedure : {d : ℕ} {j k l q b : Part} {sc o : Scope} {x : Name} {v : Value} → r.control ≡ return v →
+  to_procedure : {d : ℕ} {j k l q b : Part} {sc o : Scope} {x : Name} {v : Value} → r.control ≡ return v →
       Top s r d (await_second j sc (closure q o)) → node_at w.tree j ≡ apply_node k l →
       procedure_at (node_at w.tree q) ≡ some (procedure x b) → Rule w s r (binds (removed d) (value_cell x v o) b)
   -- or with the branch that the test chose
-  to-test : {d : ℕ} {j k l n : Part} {sc : Scope} {b : Bool} → r.control ≡ return (boolean b) → Top s r d (await_first j sc) →
+  to_test : {d : ℕ} {j k l n : Part} {sc : Scope} {b : Bool} → r.control ≡ return (boolean b) → Top s r d (await_first j sc) →
       node_at w.tree j ≡ conditional_node k l n → Rule w s r (branches d (cond b l n) sc)
   -- nothing waits: the value is that of a definition, which gets its cell, or the closing one
-  to-definition : {x : Name} {sc : Scope} {v : Value} → r.control ≡ return v → r.frame_count ≡ zero → r.target ≡ defining x sc →
+  to_definition : {x : Name} {sc : Scope} {v : Value} → r.control ≡ return v → r.frame_count ≡ zero → r.target ≡ defining x sc →
       Rule w s r (defines x v sc)
   to_end : {v : Value} → r.control ≡ return v → r.frame_count ≡ zero → r.target ≡ closing → Rule w s r (ends v)
 
 -- a step does what a rule asks for; where none has its premises it stops for want of one
 pub data Steps (w : Program) (s : Store) (r : Registers) : Outcome → Type 0 where
-  by-rule : {a : Action} → Rule w s r a → Steps w s r (perform w s r a)
-  by-none : ((a : Action) → ¬ Rule w s r a) → Steps w s r (stop no_rule)
+  by_rule : {a : Action} → Rule w s r a → Steps w s r (perform w s r a)
+  by_none : ((a : Action) → ¬ Rule w s r a) → Steps w s r (stop no_rule)

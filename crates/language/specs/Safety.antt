@@ -28,7 +28,7 @@ PassesComputed = (stock : Stock) (sheet : Sheet) (r : ExpandedType) → (passes_
 
 -- hidden types read as the modules of the sheet define them
 abbrev pub reading_in : {stock : Stock} {sheet : Sheet} {r : ExpandedType} → Passes stock sheet r → Reading
-reading_in t = reading_of (hides_of t.typed.modules-typed)
+reading_in t = reading_of (hides_of t.typed.modules_typed)
 
 -- an answer is sound: a closing value fits the type r in the cells of the store, and a stop is not 29
 abbrev pub Sound : Setting → ExpandedType → Store → Answer → Type 0
@@ -46,7 +46,7 @@ abbrev pub setting_of : {stock : Stock} {sheet : Sheet} {r : ExpandedType} → P
 setting_of {stock} t plan = record {
   tree = plan.tree;
   stock = stock;
-  points = points_of plan.tasks plan.close (map (reveal_environment (reading_in t)) (sees_of t.typed.modules-typed));
+  points = points_of plan.tasks plan.close (map (reveal_environment (reading_in t)) (sees_of t.typed.modules_typed));
 }
 
 -- the sheet's type, read so
@@ -62,7 +62,7 @@ LogsSound {stock} {sheet} t = (plan : Plan) → SheetStands plan sheet →
 
 -- the reading does read each hidden type as its module defines it, and by it every log is sound
 abbrev pub Safe : {stock : Stock} {sheet : Sheet} {r : ExpandedType} → Passes stock sheet r → Type 0
-Safe t = Reveals (reading_in t) (hides_of t.typed.modules-typed) × LogsSound t
+Safe t = Reveals (reading_in t) (hides_of t.typed.modules_typed) × LogsSound t
 
 -- so for every typed sheet
 abbrev pub Safety : Type 0
@@ -86,8 +86,8 @@ sheet_of ms closing = record { modules = ms; closing = closing }
 
 -- the interfaces n, and then those of the modules ms, are n'
 pub data InterfacesAfter (s : Context) : Interfaces → List Module → Interfaces → Type 0 where
-  i-none : {n : Interfaces} → InterfacesAfter s n [] n
-  i-more : {n n' : Interfaces} {m : Module} {ms : List Module} {i : Interface} → Outward n s m.name [] [] m.interface i →
+  i_none : {n : Interfaces} → InterfacesAfter s n [] n
+  i_more : {n n' : Interfaces} {m : Module} {ms : List Module} {i : Interface} → Outward n s m.name [] [] m.interface i →
       InterfacesAfter s (n ++ (bind m.name i ∷ [])) ms n' → InterfacesAfter s n (m ∷ ms) n'
 
 -- behind the modules `before`, the interface of m accepts the body

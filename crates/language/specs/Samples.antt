@@ -229,25 +229,25 @@ upward = value_cell g (integer (pos 1)) 2 ∷ value_cell x (integer (pos 7)) 0 �
 
 -- what the definitions say of all these
 pub record Samples : Type 0 where
-  pub thirty-three : Runs [] (figure (pos 33)) (closing_only (number_node (pos 33) ∷ []) 0) int (done_at (integer (pos 33)) 2)
-  pub thirty-three-going : answer_with [] (closing_only (number_node (pos 33) ∷ []) 0) 1 ≡ going_at 1
-  pub plus-true : NoType plus_true
-  pub salt-sheet : Runs [] salt_sheet salt_plan int (done_at (integer (pos 400)) 22)
-  pub salt-going : answer_with [] salt_plan 21 ≡ going_at 21
-  pub salt-zero : Runs [] salt_zero salt_zero_plan (hidden salt g) (done_at (integer (pos 0)) 8)
-  pub salt-plus-one : NoType salt_plus_one
-  pub other-accepted : AcceptsThere [] [] salt_module other_body
-  pub other-sheet : Runs [] other_sheet other_plan int (done_at (integer (pos 400)) 21)
-  pub minus-seven-by-two : Runs [] (division (negsuc 6) (pos 2)) (division_plan (negsuc 6) (pos 2)) int (done_at (integer (negsuc 2)) 6)
-  pub seven-by-zero : Runs [] (division (pos 7) (pos 0)) (division_plan (pos 7) (pos 0)) int (stop_at divide_by_zero 4)
-  pub seven-by-zero-stops : answer_with [] (division_plan (pos 7) (pos 0)) 5 ≡ stop_at divide_by_zero 4
-  pub seven-by-zero-going : answer_with [] (division_plan (pos 7) (pos 0)) 4 ≡ going_at 4
+  pub thirty_three : Runs [] (figure (pos 33)) (closing_only (number_node (pos 33) ∷ []) 0) int (done_at (integer (pos 33)) 2)
+  pub thirty_three_going : answer_with [] (closing_only (number_node (pos 33) ∷ []) 0) 1 ≡ going_at 1
+  pub plus_true_untyped : NoType plus_true
+  pub salt_sheet_done : Runs [] salt_sheet salt_plan int (done_at (integer (pos 400)) 22)
+  pub salt_going : answer_with [] salt_plan 21 ≡ going_at 21
+  pub salt_zero_done : Runs [] salt_zero salt_zero_plan (hidden salt g) (done_at (integer (pos 0)) 8)
+  pub salt_plus_one_untyped : NoType salt_plus_one
+  pub other_accepted : AcceptsThere [] [] salt_module other_body
+  pub other_sheet_done : Runs [] other_sheet other_plan int (done_at (integer (pos 400)) 21)
+  pub minus_seven_by_two : Runs [] (division (negsuc 6) (pos 2)) (division_plan (negsuc 6) (pos 2)) int (done_at (integer (negsuc 2)) 6)
+  pub seven_by_zero : Runs [] (division (pos 7) (pos 0)) (division_plan (pos 7) (pos 0)) int (stop_at divide_by_zero 4)
+  pub seven_by_zero_stops : answer_with [] (division_plan (pos 7) (pos 0)) 5 ≡ stop_at divide_by_zero 4
+  pub seven_by_zero_going : answer_with [] (division_plan (pos 7) (pos 0)) 4 ≡ going_at 4
   pub doubles : Runs [] doubling doubling_plan int (done_at (integer (pos 6)) 67)
-  pub no-items-lawful : Lawful no_items
-  pub no-items : Runs no_items item_count (closing_only (qualified_node pantry_name items ∷ []) 0) int (done_at (integer (pos 0)) 2)
-  pub no-kcal : Runs no_items kcal_of kcal_plan int (stop_at (no_answer 0 (pos 5)) 4)
+  pub no_items_lawful : Lawful no_items
+  pub no_items_counted : Runs no_items item_count (closing_only (qualified_node pantry_name items ∷ []) 0) int (done_at (integer (pos 0)) 2)
+  pub no_kcal : Runs no_items kcal_of kcal_plan int (stop_at (no_answer 0 (pos 5)) 4)
   pub link_up : nearest upward 1 x ≡ some (integer (pos 7))
   pub fits : Fits (returning x) [] (closure 2 0) (int ⇒ int)
   pub fits_not : ¬ Fits (returning x) [] (closure 2 0) (int ⇒ bool)
-  pub kept-fits : Fits (returning g) kept_flag (closure 2 1) (int ⇒ bool)
-  pub kept-fits-not : ¬ Fits (returning g) kept_flag (closure 2 1) (int ⇒ int)
+  pub kept_fits : Fits (returning g) kept_flag (closure 2 1) (int ⇒ bool)
+  pub kept_fits_not : ¬ Fits (returning g) kept_flag (closure 2 1) (int ⇒ int)

@@ -251,10 +251,10 @@ binds_cell (ends v) = false
 -- Why a step stops: for want of a rule, whatever else may be wanting; else for the result that a rule returns, for the cell that it
 -- binds, or for the frame that it puts down.
 pub data Stops (w : Program) (s : Store) (r : Registers) : Reason → Type 0 where
-  for-rule : ((a : Action) → ¬ Rule w s r a) → Stops w s r no_rule
-  for-result : {f : Frames} {x : Result} {k : Reason} → Rule w s r (hands f x) → try w.pantry x ≡ fails k → Stops w s r k
-  for-cell : {a : Action} → Rule w s r a → binds_cell a ≡ true → cell_free s r ≡ false → Stops w s r no_cell
-  for-frame : {f : Frame} {k : Part} {sc : Scope} → Rule w s r (puts_down f k sc) → frame_free s r ≡ false → Stops w s r no_frame
+  for_rule : ((a : Action) → ¬ Rule w s r a) → Stops w s r no_rule
+  for_result : {f : Frames} {x : Result} {k : Reason} → Rule w s r (hands f x) → try w.pantry x ≡ fails k → Stops w s r k
+  for_cell : {a : Action} → Rule w s r a → binds_cell a ≡ true → cell_free s r ≡ false → Stops w s r no_cell
+  for_frame : {f : Frame} {k : Part} {sc : Scope} → Rule w s r (puts_down f k sc) → frame_free s r ≡ false → Stops w s r no_frame
 
 -- a step stops for these reasons, and for no other
 abbrev pub StopsAgree : Type 0

@@ -107,16 +107,16 @@ pub data Task : Type 0 where
 
 -- the definitions of a body stand as the first of these tasks, with `rest` behind them
 pub data BodyStands (tree : List Node) (rest : List Task) : List Definition → List Task → Type 0 where
-  b-none : BodyStands tree rest [] rest
-  b-skip : {t : Name} {u : WrittenType} {ds : List Definition} {ts : List Task} → BodyStands tree rest ds ts →
+  b_none : BodyStands tree rest [] rest
+  b_skip : {t : Name} {u : WrittenType} {ds : List Definition} {ts : List Task} → BodyStands tree rest ds ts →
       BodyStands tree rest (type_is t u ∷ ds) ts
-  b-task : {x : Name} {a : Exp} {j : Part} {ds : List Definition} {ts : List Task} → Stands tree j a → BodyStands tree rest ds ts →
+  b_task : {x : Name} {a : Exp} {j : Part} {ds : List Definition} {ts : List Task} → Stands tree j a → BodyStands tree rest ds ts →
       BodyStands tree rest (value_is x a ∷ ds) (define x j ∷ ts)
 
 -- the modules stand as these tasks: each body, then its end
 pub data ModulesStand (tree : List Node) : List Module → List Task → Type 0 where
-  m-none : ModulesStand tree [] []
-  m-more : {m : Module} {ms : List Module} {rest ts : List Task} → ModulesStand tree ms rest →
+  m_none : ModulesStand tree [] []
+  m_more : {m : Module} {ms : List Module} {rest ts : List Task} → ModulesStand tree ms rest →
       BodyStands tree (end_module m.name ∷ rest) m.body ts → ModulesStand tree (m ∷ ms) ts
 
 -- ── the order of parts ──
@@ -160,7 +160,7 @@ pub record Plan : Type 0 where
 
 -- The plan stands for the sheet. The order of parts is that of a table filled as the text is read: inner parts first, root after root.
 pub record SheetStands (plan : Plan) (sheet : Sheet) : Type 0 where
-  pub modules-stand : ModulesStand plan.tree sheet.modules plan.tasks
-  pub closing-stands : Stands plan.tree plan.close sheet.closing
-  pub roots-ascend : ascending (roots_of plan.tasks plan.close) ≡ true
-  pub inner-first : inner_first (roots_of plan.tasks plan.close) 0 plan.tree ≡ true
+  pub modules_stand : ModulesStand plan.tree sheet.modules plan.tasks
+  pub closing_stands : Stands plan.tree plan.close sheet.closing
+  pub roots_ascend : ascending (roots_of plan.tasks plan.close) ≡ true
+  pub inner_parts_first : inner_first (roots_of plan.tasks plan.close) 0 plan.tree ≡ true

@@ -107,19 +107,19 @@ result_of less = bool
 
 -- `HasType e g p a`: in the environment e, with the names g bound to values of their types, the expression p has the type a
 pub data HasType (e : Environment) : Context → Exp → ExpandedType → Type 0 where
-  t-number : {g : Context} {z : ℤ} → HasType e g (number z) int
-  t-boolean : {g : Context} {b : Bool} → HasType e g (boolean b) bool
-  t-variable : {g : Context} {x : Name} {a : ExpandedType} → lookup g x ≡ some a → HasType e g (variable x) a
-  t-qualified : {g : Context} {m x : Name} {a : ExpandedType} → taken e m x ≡ some a → HasType e g (qualified m x) a
-  t-zero : {g : Context} {p : Exp} → HasType e g p int → HasType e g (is_zero p) bool
-  t-apply : {g : Context} {p q : Exp} {a b : ExpandedType} → HasType e g p (a ⇒ b) → HasType e g q a → HasType e g (apply p q) b
-  t-proc : {g : Context} {x : Name} {t : WrittenType} {p : Exp} {a b : ExpandedType} → expand e t ≡ some a →
+  t_number : {g : Context} {z : ℤ} → HasType e g (number z) int
+  t_boolean : {g : Context} {b : Bool} → HasType e g (boolean b) bool
+  t_variable : {g : Context} {x : Name} {a : ExpandedType} → lookup g x ≡ some a → HasType e g (variable x) a
+  t_qualified : {g : Context} {m x : Name} {a : ExpandedType} → taken e m x ≡ some a → HasType e g (qualified m x) a
+  t_zero : {g : Context} {p : Exp} → HasType e g p int → HasType e g (is_zero p) bool
+  t_apply : {g : Context} {p q : Exp} {a b : ExpandedType} → HasType e g p (a ⇒ b) → HasType e g q a → HasType e g (apply p q) b
+  t_proc : {g : Context} {x : Name} {t : WrittenType} {p : Exp} {a b : ExpandedType} → expand e t ≡ some a →
       HasType e (bind x a ∷ g) p b → HasType e g (proc x t p) (a ⇒ b)
-  t-let : {g : Context} {x : Name} {p q : Exp} {a b : ExpandedType} → HasType e g p a → HasType e (bind x a ∷ g) q b →
+  t_let : {g : Context} {x : Name} {p q : Exp} {a b : ExpandedType} → HasType e g p a → HasType e (bind x a ∷ g) q b →
       HasType e g (let_in x p q) b
-  t-conditional : {g : Context} {p q r : Exp} {a : ExpandedType} → HasType e g p bool → HasType e g q a → HasType e g r a →
+  t_conditional : {g : Context} {p q r : Exp} {a : ExpandedType} → HasType e g p bool → HasType e g q a → HasType e g r a →
       HasType e g (conditional p q r) a
-  t-letrec : {g : Context} {u t : WrittenType} {f x : Name} {p q : Exp} {a b c : ExpandedType} → expand e t ≡ some a →
+  t_letrec : {g : Context} {u t : WrittenType} {f x : Name} {p q : Exp} {a b c : ExpandedType} → expand e t ≡ some a →
       expand e u ≡ some b → HasType e (bind x a ∷ (bind f (a ⇒ b) ∷ g)) p b → HasType e (bind f (a ⇒ b) ∷ g) q c →
       HasType e g (letrec u f x t p q) c
-  t-binary : {g : Context} {o : Operator} {p q : Exp} → HasType e g p int → HasType e g q int → HasType e g (binary o p q) (result_of o)
+  t_binary : {g : Context} {o : Operator} {p q : Exp} → HasType e g p int → HasType e g q int → HasType e g (binary o p q) (result_of o)

@@ -26,12 +26,12 @@ abbrev pub typed : ℕ → ExpandedType
 typed i = type_told text table i
 
 pub record Samples : Type 0 where
-  pub thirty-three : line_of [] (typed 0) (Done (Integer (pos 33)) 2) ≡ codes "done int 33 steps 2\n"
-  pub minus-three : line_of [] (typed 0) (Done (Integer (negsuc 2)) 6) ≡ codes "done int -3 steps 6\n"
+  pub thirty_three : line_of [] (typed 0) (Done (Integer (pos 33)) 2) ≡ codes "done int 33 steps 2\n"
+  pub minus_three : line_of [] (typed 0) (Done (Integer (negsuc 2)) 6) ≡ codes "done int -3 steps 6\n"
   pub boolean : line_of [] (typed 1) (Done (Boolean true) 4) ≡ codes "done bool true steps 4\n"
-  pub integer-hidden : line_of [] (typed 2) (Done (Integer (pos 400)) 22) ≡ codes "done from salt take g hidden steps 22\n"
+  pub integer_hidden : line_of [] (typed 2) (Done (Integer (pos 400)) 22) ≡ codes "done from salt take g hidden steps 22\n"
   pub arrow : line_of [] (typed 4) (Done Procedure 3) ≡ codes "done ((from salt take g -> int) -> bool) hidden steps 3\n"
-  pub under-way : line_of [] (typed 0) (Going 1000000) ≡ codes "going steps 1000000\n"
+  pub under_way : line_of [] (typed 0) (Going 1000000) ≡ codes "going steps 1000000\n"
   pub by_zero : line_of [] (typed 0) (Stopped DivideByZero 4) ≡ codes "stop 27 steps 4\n"
   pub no_answer : line_of no_items (typed 0) (Stopped (NoAnswer (record { entry = 0; argument = pos 5 })) 4) ≡
       codes "stop 28 kcal 5 steps 4\n"

@@ -5,7 +5,7 @@ use lib.Seq.{drop-length}
 use Rattle.pantry.specs.declared.records.Record.{Record}
 use Rattle.pantry.specs.File.{two_at, place, record_at, records_from, records_of, count_of, header_ok}
 use Rattle.pantry.specs.Format.{two_bytes, four_bytes, record_bytes, records_bytes, file_of, InWidth, Encodes, nth}
-use Rattle.pantry.specs.FileFacts.{few, records-length}
+use Rattle.pantry.specs.FileFacts.{few, records_length}
 use Rattle.pantry.proofs.Scans.{exact}
 
 -- ── record k ──
@@ -84,9 +84,9 @@ body : (f : List ℕ) → ((i : ℕ) → get_or f i 0 < 256) → header_ok f ≡
 unfolding records_of
 body f bytes ok = rest f bytes 0 (count_of f) (exact f ok ∙ ap place (omega arith))
 
-in-width : (f : List ℕ) (k : ℕ) → ((i : ℕ) → get_or f i 0 < 256) → InWidth (record_at f k)
+in_width : (f : List ℕ) (k : ℕ) → ((i : ℕ) → get_or f i 0 < 256) → InWidth (record_at f k)
 unfolding record_at
-in-width f k bytes = record {
+in_width f k bytes = record {
   item = omega (arith, bytes (place k), bytes (place k + 1));
   kcal = omega (arith, bytes (place k + 2), bytes (place k + 2 + 1), bytes (place k + 4), bytes (place k + 4 + 1));
   flag = bytes (place k + 6);
@@ -95,8 +95,8 @@ in-width f k bytes = record {
 -- a file in order is that of its records
 pub encodes : (f : List ℕ) → ((i : ℕ) → get_or f i 0 < 256) → header_ok f ≡ true → Encodes f (records_of f)
 encodes f bytes ok = record {
-  few = rw (records-length f) (few f ok);
-  in-width = λ k h. let l : k < count_of f = rw (records-length f) at h in rw (nth-is f k l) (in-width f k bytes);
+  few = rw (records_length f) (few f ok);
+  in_width = λ k h. let l : k < count_of f = rw (records_length f) at h in rw (nth-is f k l) (in_width f k bytes);
   bytes = whole;
 } where
   three : get_or f 3 0 ≡ 0
@@ -106,10 +106,10 @@ encodes f bytes ok = record {
   four = omega (arith, version f ok, bytes 4)
 
   high : get_or f 5 0 ≡ length (records_of f) / 256
-  high = sym (rw (records-length f) (digits_div (get_or f 5 0) (bytes 6)))
+  high = sym (rw (records_length f) (digits_div (get_or f 5 0) (bytes 6)))
 
   low : get_or f 6 0 ≡ length (records_of f) % 256
-  low = sym (rw (records-length f) (digits_mod (get_or f 5 0) (bytes 6)))
+  low = sym (rw (records_length f) (digits_mod (get_or f 5 0) (bytes 6)))
 
   whole : f ≡ file_of (records_of f)
   whole = seven f bytes 0 (omega (arith, exact f ok)) ∙ rw (at-0 f ok, at_1 f ok, at-2 f ok, three, four, high, low, body f bytes ok)

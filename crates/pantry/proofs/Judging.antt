@@ -6,7 +6,7 @@ use Rattle.pantry.specs.declared.faults.LoadFault.{LoadFault}
 use Rattle.pantry.specs.declared.faults.LoadFault.TheVariants.{NoItemFile, BadRecord}
 use Rattle.pantry.specs.File.{place, record_at, records_from, records_of, first_with, count_of, header_ok, record_ok}
 use Rattle.pantry.specs.File.{unlawful_from, unlawful, at_record, fault, refused}
-use Rattle.pantry.specs.FileFacts.{left, right, lawful-from, records-length}
+use Rattle.pantry.specs.FileFacts.{left, right, lawful_from, records_length}
 use Rattle.pantry.specs.Format.{LawfulAt, FirstUnlawful, Judged, OneList}
 use Rattle.pantry.proofs.Formats.{nth-is, encodes, decodes}
 
@@ -94,7 +94,7 @@ first f k e = first-from f 0 (count_of f) k e
 
 none_first : (f : List ℕ) → unlawful f ≡ None → (k : ℕ) → k < count_of f → record_ok f k ≡ true
 unfolding unlawful
-none_first f e k h = lawful-from f 0 (count_of f) k e (omega arith) (omega arith)
+none_first f e k h = lawful_from f 0 (count_of f) k e (omega arith) (omega arith)
 
 -- ── what is answered ──
 
@@ -120,7 +120,7 @@ module _ (f : List ℕ) (bytes : (i : ℕ) → get_or f i 0 < 256) where
       let t = first f k e in
       let l : k < count_of f = omega (arith, t.high) in
       record {
-        within = rw (records-length f) l;
+        within = rw (records_length f) l;
         before = λ j i. lawful-at f j (omega arith) (t.before j (omega arith) i);
         here = λ a. let z : ◌≡◌ {A = Bool} true false = sym (at-lawful f k l a) ∙ t.here in let w : ◌≡◌ {A = ℕ} 0 1 = cc in omega arith;
         place_is = q;
@@ -131,7 +131,7 @@ module _ (f : List ℕ) (bytes : (i : ℕ) → get_or f i 0 < 256) where
       let p = ok-parts (header_ok f) (unlawful f) e in (
         records_of f,
         encodes f bytes p.0,
-        λ k h. let l : k < count_of f = rw (records-length f) at h in lawful-at f k l (none_first f p.1 k l),
+        λ k h. let l : k < count_of f = rw (records_length f) at h in lawful-at f k l (none_first f p.1 k l),
       )
   judged (Err NoItemFile) e = λ rs c.
       let z : ◌≡◌ {A = Bool} true false = sym (decodes f rs c).0 ∙ file-parts (header_ok f) (unlawful f) e in

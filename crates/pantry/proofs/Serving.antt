@@ -4,7 +4,7 @@ use mathlib.Core.Option.{Option as Maybe, none}
 use Rattle.language.specs.Pantry.{Reply, in_range}
 use Rattle.pantry.specs.declared.records.Record.{Record}
 use Rattle.pantry.specs.File.{record_at, records_from, records_of, first_with, count_of, accepted}
-use Rattle.pantry.specs.FileFacts.{none-unlawful, lawful-from, records-length}
+use Rattle.pantry.specs.FileFacts.{none_unlawful, lawful_from, records_length}
 use Rattle.pantry.specs.Format.{InWidth, nth, Serves, ServesFile}
 use Rattle.pantry.specs.Items.{item_pantry, record_for}
 use Rattle.pantry.proofs.Formats.{nth-is, decodes}
@@ -30,7 +30,7 @@ module _ (f : List ℕ) (ok : accepted f ≡ true) where
   there : (k : ℕ) → k < count_of f → first_with (record_at f k).item (records_of f) ≡ Some (record_at f k)
   unfolding records_of
   there k h =
-      let a = lawful-at f k h (lawful-from f 0 (count_of f) k (none-unlawful f ok) (omega arith) (omega arith)) in
+      let a = lawful-at f k h (lawful_from f 0 (count_of f) k (none_unlawful f ok) (omega arith) (omega arith)) in
       first-is f 0 (count_of f) k (omega arith) (omega arith)
       (λ j i l q. let s : j < count_of f = omega arith in a.fresh j l (rw (nth-is f k h, nth-is f j s) q))
 
@@ -43,18 +43,18 @@ module _ (f : List ℕ) (ok : accepted f ≡ true) where
   nowhere (negsuc n) h = refl
 
   absent : (z : ℤ) → ((k : ℕ) → k < length (records_of f) → pos (nth (records_of f) k).item ≡ z → ⊥) → record_for (records_of f) z ≡ None
-  absent z h = nowhere z (λ k l q. h k (rw (records-length f) l) (rw (nth-is f k l) q))
+  absent z h = nowhere z (λ k l q. h k (rw (records_length f) l) (rw (nth-is f k l) q))
 
   serves-own : ((k : ℕ) → k < length (records_of f) → InWidth (nth (records_of f) k)) → Serves (records_of f) (item_pantry (records_of f))
   serves-own w = record {
     kcal = λ k h.
-        let l : k < count_of f = rw (records-length f) at h in
+        let l : k < count_of f = rw (records_length f) at h in
         rw (nth-is f k l, ranged k (rw (nth-is f k l) at (w k h)), there k l);
     allergen = λ k h.
-        let l : k < count_of f = rw (records-length f) at h in
+        let l : k < count_of f = rw (records_length f) at h in
         rw (nth-is f k l, ranged k (rw (nth-is f k l) at (w k h)), there k l);
-    no-kcal = λ z h. rw (absent z h) (none-either (in_range z));
-    no-allergen = λ z h. rw (absent z h) (none-either (in_range z));
+    no_kcal = λ z h. rw (absent z h) (none-either (in_range z));
+    no_allergen = λ z h. rw (absent z h) (none-either (in_range z));
     items = λ z r. rw r;
   }
 
@@ -62,4 +62,4 @@ module _ (f : List ℕ) (ok : accepted f ≡ true) where
   serves rs c =
       let e = (decodes f rs c).1 in
       subst (λ (qs : List Record). Serves qs (item_pantry (records_of f))) e
-      (serves-own (subst (λ (qs : List Record). (k : ℕ) → k < length qs → InWidth (nth qs k)) (sym e) c.in-width))
+      (serves-own (subst (λ (qs : List Record). (k : ℕ) → k < length qs → InWidth (nth qs k)) (sym e) c.in_width))

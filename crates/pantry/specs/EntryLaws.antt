@@ -9,8 +9,8 @@ use Rattle.language.specs.Pantry.{Entry, Pantry, Reply, figure_reply, in_range, 
 -- what the law of pantries asks of one entry
 pub record EntryLawful (e : Entry) : Type 0 where
   pub by_kind : (z : ℤ) (a : Reply) → e.reply z ≡ some a → ReplyFits e.kind a
-  pub in-range : (z y : ℤ) → e.reply z ≡ some (figure_reply y) → in_range y ≡ true
-  pub plain-reply : by_item e.kind ≡ false → (a : Reply) × ((z : ℤ) → in_range z ≡ true → e.reply z ≡ some a)
+  pub figures_in_range : (z y : ℤ) → e.reply z ≡ some (figure_reply y) → in_range y ≡ true
+  pub plain_reply : by_item e.kind ≡ false → (a : Reply) × ((z : ℤ) → in_range z ≡ true → e.reply z ≡ some a)
 
 -- each entry is lawful
 abbrev pub EachLawful : Pantry → Type 0
@@ -28,17 +28,17 @@ within false o a q = cc
 
 ranged : (o : Option Entry) (z y : ℤ) → ((e : Entry) → o ≡ some e → EntryLawful e) → reply_of o z ≡ some (figure_reply y) → in_range y ≡ true
 ranged none z y l q = absurd (let z : ◌≡◌ {A = ℕ} 0 1 = cc in omega arith)
-ranged (some e) z y l q = (l e refl).in-range z y q
+ranged (some e) z y l q = (l e refl).figures_in_range z y q
 
-pub lawful-by-entry : (p : Pantry) → length p ≤ 64 → distinct (map entry_name p) ≡ true → lawful_names (map entry_name p) ≡ true →
+pub lawful_by_entry : (p : Pantry) → length p ≤ 64 → distinct (map entry_name p) ≡ true → lawful_names (map entry_name p) ≡ true →
     EachLawful p → Lawful p
-lawful-by-entry p few apart named l = record {
+lawful_by_entry p few apart named l = record {
   few = few;
   apart = apart;
   named = named;
   by_kind = λ i e z a q f. let r : e.reply z ≡ some a = rw q at (within (in_range z) (reply_of (get_elem? p i) z) a f) in
       (each p i e l q).by_kind z a r;
-  in-range = λ i z y f.
+  figures_in_range = λ i z y f.
       ranged (get_elem? p i) z y (λ e q. each p i e l q) (within (in_range z) (reply_of (get_elem? p i) z) (figure_reply y) f);
-  plain-reply = λ i e q k. let a = (each p i e l q).plain-reply k in (a.0, λ z r. rw (r, q) (a.1 z r));
+  plain_reply = λ i e q k. let a = (each p i e l q).plain_reply k in (a.0, λ z r. rw (r, q) (a.1 z r));
 }

@@ -21,30 +21,30 @@ parts false (Some k) e = (cc, cc)
 pub header : (f : List ℕ) → accepted f ≡ true → header_ok f ≡ true
 header f e = (parts (header_ok f) (unlawful f) e).0
 
-pub none-unlawful : (f : List ℕ) → accepted f ≡ true → unlawful_from f 0 (count_of f) ≡ None
+pub none_unlawful : (f : List ℕ) → accepted f ≡ true → unlawful_from f 0 (count_of f) ≡ None
 unfolding unlawful
-none-unlawful f e = (parts (header_ok f) (unlawful f) e).1
+none_unlawful f e = (parts (header_ok f) (unlawful f) e).1
 
 pub few : (f : List ℕ) → header_ok f ≡ true → count_of f ≤ 1000
 unfolding header_ok
 few f h = leb-true _ _ (right _ _ (left _ _ h))
 
-no-fault : (b : Bool) (o : Option ℕ) (k : ℕ) → cond b o (Some k) ≡ None → (b ≡ true) × (o ≡ None)
-no-fault true o k e = (refl, e)
-no-fault false o k e = (cc, cc)
+no_fault : (b : Bool) (o : Option ℕ) (k : ℕ) → cond b o (Some k) ≡ None → (b ≡ true) × (o ≡ None)
+no_fault true o k e = (refl, e)
+no_fault false o k e = (cc, cc)
 
 -- where none of as many records is unlawful, each is lawful
-pub lawful-from : (f : List ℕ) (k n j : ℕ) → unlawful_from f k n ≡ None → k ≤ j → j < k + n → record_ok f j ≡ true
-lawful-from f k zero j e l h = absurd (omega arith)
-lawful-from f k (suc n) j e l h =
-    let p = no-fault (record_ok f k) (unlawful_from f (k + 1) n) k e in
-    ⊎_elim (λ (q : k ≡ j). rw (sym q) p.0) (λ (q : k < j). lawful-from f (k + 1) n j p.1 (omega arith) (omega arith))
+pub lawful_from : (f : List ℕ) (k n j : ℕ) → unlawful_from f k n ≡ None → k ≤ j → j < k + n → record_ok f j ≡ true
+lawful_from f k zero j e l h = absurd (omega arith)
+lawful_from f k (suc n) j e l h =
+    let p = no_fault (record_ok f k) (unlawful_from f (k + 1) n) k e in
+    ⊎_elim (λ (q : k ≡ j). rw (sym q) p.0) (λ (q : k < j). lawful_from f (k + 1) n j p.1 (omega arith) (omega arith))
     (eq-or-lt_of_le l)
 
-from-length : (f : List ℕ) (k n : ℕ) → length (records_from f k n) ≡ n
-from-length f k zero = refl
-from-length f k (suc n) = ap suc (from-length f (k + 1) n)
+from_length : (f : List ℕ) (k n : ℕ) → length (records_from f k n) ≡ n
+from_length f k zero = refl
+from_length f k (suc n) = ap suc (from_length f (k + 1) n)
 
-pub records-length : (f : List ℕ) → length (records_of f) ≡ count_of f
+pub records_length : (f : List ℕ) → length (records_of f) ≡ count_of f
 unfolding records_of
-records-length f = from-length f 0 (count_of f)
+records_length f = from_length f 0 (count_of f)

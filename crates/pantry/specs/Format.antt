@@ -40,7 +40,7 @@ pub record InWidth (r : Record) : Type 0 where
 -- the bytes are the file of these records, which are at most 1,000
 pub record Encodes (f : List ℕ) (rs : List Record) : Type 0 where
   pub few : length rs ≤ 1000
-  pub in-width : (k : ℕ) → k < length rs → InWidth (nth rs k)
+  pub in_width : (k : ℕ) → k < length rs → InWidth (nth rs k)
   pub bytes : f ≡ file_of rs
 
 -- record k is lawful: its item is new, its figure is one, its flag is 0 or 1
@@ -72,8 +72,8 @@ OneList f = (rs qs : List Record) → Encodes f rs → Encodes f qs → rs ≡ q
 pub record Serves (rs : List Record) (p : Pantry) : Type 0 where
   pub kcal : (k : ℕ) → k < length rs → fetch p 0 (pos (nth rs k).item) ≡ some (figure_reply (pos (nth rs k).kcal))
   pub allergen : (k : ℕ) → k < length rs → fetch p 1 (pos (nth rs k).item) ≡ some (flag_reply ((nth rs k).flag == 1))
-  pub no-kcal : (z : ℤ) → ((k : ℕ) → k < length rs → pos (nth rs k).item ≢ z) → fetch p 0 z ≡ none
-  pub no-allergen : (z : ℤ) → ((k : ℕ) → k < length rs → pos (nth rs k).item ≢ z) → fetch p 1 z ≡ none
+  pub no_kcal : (z : ℤ) → ((k : ℕ) → k < length rs → pos (nth rs k).item ≢ z) → fetch p 0 z ≡ none
+  pub no_allergen : (z : ℤ) → ((k : ℕ) → k < length rs → pos (nth rs k).item ≢ z) → fetch p 1 z ≡ none
   pub items : (z : ℤ) → in_range z ≡ true → fetch p 2 z ≡ some (figure_reply (pos (length rs)))
 
 -- the pantry over a file serves the file's records

@@ -6,9 +6,9 @@ use Rattle.words.specs.Names.{Name, key, same_name, is_name, is_keyword}
 use Rattle.language.specs.Pantry.{figure_kind, figure_by_item, flag_by_item, Reply, figure_reply, flag_reply, max_magnitude, in_range, Lawful}
 use Rattle.pantry.specs.declared.records.Record.{Record}
 use Rattle.pantry.specs.File.{record_at, records_from, records_of, first_with, count_of, accepted}
-use Rattle.pantry.specs.FileFacts.{left, right, header, none-unlawful, few, lawful-from, records-length}
+use Rattle.pantry.specs.FileFacts.{left, right, header, none_unlawful, few, lawful_from, records_length}
 use Rattle.pantry.specs.Items.{record_for, kcal_in, flag_in, item_pantry}
-use Rattle.pantry.specs.EntryLaws.{EntryLawful, lawful-by-entry}
+use Rattle.pantry.specs.EntryLaws.{EntryLawful, lawful_by_entry}
 
 -- a record that a search comes to
 picked : (b : Bool) (r s : Record) (o : Option Record) → cond b (Some r) o ≡ Some s → r.kcal ≤ max_magnitude →
@@ -24,52 +24,52 @@ first_small f k (suc n) h m r q =
     (λ s. first_small f (k + 1) n (λ j l i. h j (omega arith) (omega arith)) m r s)
 
 small : (f : List ℕ) (j : ℕ) → accepted f ≡ true → j < count_of f → (record_at f j).kcal ≤ max_magnitude
-small f j h l = leb-true _ _ (right _ _ (left _ _ (lawful-from f 0 (count_of f) j (none-unlawful f h) (omega arith) (omega arith))))
+small f j h l = leb-true _ _ (right _ _ (left _ _ (lawful_from f 0 (count_of f) j (none_unlawful f h) (omega arith) (omega arith))))
 
-pub found-small : (f : List ℕ) (z : ℤ) (r : Record) → accepted f ≡ true → record_for (records_of f) z ≡ Some r → r.kcal ≤ max_magnitude
+pub found_small : (f : List ℕ) (z : ℤ) (r : Record) → accepted f ≡ true → record_for (records_of f) z ≡ Some r → r.kcal ≤ max_magnitude
 unfolding records_of
-found-small f (pos n) r h q = first_small f 0 (count_of f) (λ j l i. small f j h (omega arith)) n r q
-found-small f (negsuc n) r h q = absurd (let z : ◌≡◌ {A = ℕ} 0 1 = cc in omega arith)
+found_small f (pos n) r h q = first_small f 0 (count_of f) (λ j l i. small f j h (omega arith)) n r q
+found_small f (negsuc n) r h q = absurd (let z : ◌≡◌ {A = ℕ} 0 1 = cc in omega arith)
 
 figured : (n : ℕ) → n ≤ max_magnitude → in_range (pos n) ≡ true
 figured n h = le-leb n max_magnitude h
 
-kcal-given : (o : Option Record) (a : Reply) → ((r : Record) → o ≡ Some r → r.kcal ≤ max_magnitude) → kcal_in o ≡ some a →
+kcal_given : (o : Option Record) (a : Reply) → ((r : Record) → o ≡ Some r → r.kcal ≤ max_magnitude) → kcal_in o ≡ some a →
     (n : ℕ) × (a ≡ figure_reply (pos n)) × (n ≤ max_magnitude)
-kcal-given None a h e = absurd (let z : ◌≡◌ {A = ℕ} 0 1 = cc in omega arith)
-kcal-given (Some r) a h e = (r.kcal, cc, h r refl)
+kcal_given None a h e = absurd (let z : ◌≡◌ {A = ℕ} 0 1 = cc in omega arith)
+kcal_given (Some r) a h e = (r.kcal, cc, h r refl)
 
-flag-given : (o : Option Record) (a : Reply) → flag_in o ≡ some a → (b : Bool) × (a ≡ flag_reply b)
-flag-given None a e = absurd (let z : ◌≡◌ {A = ℕ} 0 1 = cc in omega arith)
-flag-given (Some r) a e = ((r.flag == 1), cc)
+flag_given : (o : Option Record) (a : Reply) → flag_in o ≡ some a → (b : Bool) × (a ≡ flag_reply b)
+flag_given None a e = absurd (let z : ◌≡◌ {A = ℕ} 0 1 = cc in omega arith)
+flag_given (Some r) a e = ((r.flag == 1), cc)
 
 module _ (f : List ℕ) (ok : accepted f ≡ true) (x : Name) where
-  kcal-entry : EntryLawful record { name = x; kind = figure_by_item; reply = λ z. kcal_in (record_for (records_of f) z) }
-  kcal-entry = record {
-    by_kind = λ z a q. rw (kcal-given (record_for (records_of f) z) a (λ r s. found-small f z r ok s) q).1 tt;
-    in-range = λ z y q.
-        let g = kcal-given (record_for (records_of f) z) (figure_reply y) (λ r s. found-small f z r ok s) q in
+  kcal_entry_lawful : EntryLawful record { name = x; kind = figure_by_item; reply = λ z. kcal_in (record_for (records_of f) z) }
+  kcal_entry_lawful = record {
+    by_kind = λ z a q. rw (kcal_given (record_for (records_of f) z) a (λ r s. found_small f z r ok s) q).1 tt;
+    figures_in_range = λ z y q.
+        let g = kcal_given (record_for (records_of f) z) (figure_reply y) (λ r s. found_small f z r ok s) q in
         let s : y ≡ pos g.0 = cc in rw s (figured g.0 g.2);
-    plain-reply = λ q. absurd (let z : ◌≡◌ {A = ℕ} 0 1 = cc in omega arith);
+    plain_reply = λ q. absurd (let z : ◌≡◌ {A = ℕ} 0 1 = cc in omega arith);
   }
 
-  allergen-entry : EntryLawful record { name = x; kind = flag_by_item; reply = λ z. flag_in (record_for (records_of f) z) }
-  allergen-entry = record {
-    by_kind = λ z a q. rw (flag-given (record_for (records_of f) z) a q).1 tt;
-    in-range = λ z y q. let g = flag-given (record_for (records_of f) z) (figure_reply y) q in
+  allergen_entry_lawful : EntryLawful record { name = x; kind = flag_by_item; reply = λ z. flag_in (record_for (records_of f) z) }
+  allergen_entry_lawful = record {
+    by_kind = λ z a q. rw (flag_given (record_for (records_of f) z) a q).1 tt;
+    figures_in_range = λ z y q. let g = flag_given (record_for (records_of f) z) (figure_reply y) q in
         absurd (let z : ◌≡◌ {A = ℕ} 0 1 = cc in omega arith);
-    plain-reply = λ q. absurd (let z : ◌≡◌ {A = ℕ} 0 1 = cc in omega arith);
+    plain_reply = λ q. absurd (let z : ◌≡◌ {A = ℕ} 0 1 = cc in omega arith);
   }
 
-  items-entry : EntryLawful record { name = x; kind = figure_kind; reply = λ z. some (figure_reply (pos (length (records_of f)))) }
-  items-entry = record {
+  items_entry_lawful : EntryLawful record { name = x; kind = figure_kind; reply = λ z. some (figure_reply (pos (length (records_of f)))) }
+  items_entry_lawful = record {
     by_kind = λ z a q. let s : a ≡ figure_reply (pos (length (records_of f))) = cc in rw s tt;
-    in-range = λ z y q. let s : y ≡ pos (length (records_of f)) = cc in
-        rw s (figured (length (records_of f)) (omega (arith, records-length f, few f (header f ok))));
-    plain-reply = λ q. (figure_reply (pos (length (records_of f))), λ z r. refl);
+    figures_in_range = λ z y q. let s : y ≡ pos (length (records_of f)) = cc in
+        rw s (figured (length (records_of f)) (omega (arith, records_length f, few f (header f ok))));
+    plain_reply = λ q. (figure_reply (pos (length (records_of f))), λ z r. refl);
   }
 
-pub items-lawful : (f : List ℕ) → accepted f ≡ true → Lawful (item_pantry (records_of f))
+pub items_lawful : (f : List ℕ) → accepted f ≡ true → Lawful (item_pantry (records_of f))
 unfolding key same_name is_name is_keyword
-items-lawful f ok = lawful-by-entry (item_pantry (records_of f)) (lit≤ tt) refl refl
-    (kcal-entry f ok _, (allergen-entry f ok _, (items-entry f ok _, tt)))
+items_lawful f ok = lawful_by_entry (item_pantry (records_of f)) (lit≤ tt) refl refl
+    (kcal_entry_lawful f ok _, (allergen_entry_lawful f ok _, (items_entry_lawful f ok _, tt)))

@@ -1,7 +1,7 @@
 ghost use Rattle.std.specs.Prelude.{◌≡◌};
 ghost use Rattle.pantry.specs.Meaning.{answered};
 ghost use Rattle.pantry.specs.Factors.{energy, factors as meant, GivesEnergy};
-ghost use Rattle.pantry.specs.FactorLaws.{factors-lawful};
+ghost use Rattle.pantry.specs.FactorLaws.{factors_lawful};
 
 use crate::entries::{Answer, Entry, Kind, MAX_FIGURE};
 use crate::pantries::Pantry;
@@ -34,7 +34,7 @@ fn kcal(factor: u8, grams: i32) -> Option<Answer>
 impl Pantry for Factors {
     ghost meaning = { λ _. meant };
 
-    ghost lawful = { λ _. factors-lawful };
+    ghost lawful = { λ _. factors_lawful };
 
     fn count(&self) -> usize {
         5

@@ -3,7 +3,7 @@ ghost use Rattle.language.specs.Pantry.{figure_reply};
 ghost use Rattle.pantry.specs.Meaning.{answered, reply_for};
 ghost use Rattle.pantry.specs.File.{accepted, count_of, records_of};
 ghost use Rattle.pantry.specs.Items.{item_pantry, record_for, kcal_in, flag_in};
-ghost use Rattle.pantry.specs.ItemLaws.{items-lawful};
+ghost use Rattle.pantry.specs.ItemLaws.{items_lawful};
 
 use crate::entries::{Answer, Entry, Kind, in_range};
 use crate::items::Items;
@@ -61,7 +61,7 @@ fn items_in(file: &[u8]) -> Answer
 impl Pantry for Items<'_> {
     ghost meaning = { λ s. item_pantry (records_of s.file.now) };
 
-    ghost lawful = { λ s. items-lawful s.file.now s.ok };
+    ghost lawful = { λ s. items_lawful s.file.now s.ok };
 
     fn count(&self) -> usize {
         3

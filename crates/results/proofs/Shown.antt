@@ -18,12 +18,12 @@ pub samples : Samples
 unfolding reading sheet_from read_part many single chosen steps scan start key same_name pantry_name nearest_in part_of entering taking tasks_of record_at records_of header_ok unlawful refusal_bytes digits
 samples =
     record {
-      plain-number = refl;
-      empty-text = refl;
-      unwanted-flag = refl;
-      salt-shown = refl;
-      salt-hidden = refl;
-      salt-kept = refl;
+      plain_number = refl;
+      empty_text = refl;
+      unwanted_flag = refl;
+      salt_shown = refl;
+      salt_hidden = refl;
+      salt_kept = refl;
       quotient = refl;
       by_zero = refl;
       no_record = refl;

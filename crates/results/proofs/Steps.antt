@@ -88,7 +88,7 @@ module _ (text : List ℕ) (m : check.Out (List ExpandedType) rules.Scope) (no_t
   passed-by sheet tp sp k t (check.bad g) e h typed = let y = h.0 in let z : ◌≡◌ {A = ℕ} 0 1 = cc in absurd (omega arith)
   passed-by sheet tp sp k t (check.good a us) e h typed =
       let s = (passing-sound (stock_of p) tp sp sheet a us e).0 in
-      ap (ran_line p plan cells frames allowance) (one_type.of-sheet (stock_types (stock_of p)) (plain sheet) a t s typed)
+      ap (ran_line p plan cells frames allowance) (one_type.of_sheet (stock_types (stock_of p)) (plain sheet) a t s typed)
 
   pub passed-line : (sheet : Sheet) (tp sp k : ℕ) (t : ExpandedType) → Ends text m (checking (stock_of p) tp sp sheet) (Ok k) no_types no_slots types slots →
       Typed (stock_of p) sheet t → checked_line p plan cells frames allowance (checking (stock_of p) tp sp sheet) ≡ ran_line p plan cells frames allowance t

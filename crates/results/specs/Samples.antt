@@ -18,12 +18,12 @@ salt = codes "module salt interface [opaque g zero : g more : (g -> g) mg : (g -
     codes "body [type g = int zero = 0 more = proc (x : g) +(x,400) mg = proc (x : g) x] "
 
 pub record Samples : Type 0 where
-  pub plain-number : line_on (codes "33") ≡ codes "done int 33 steps 2\n"
-  pub empty-text : line_on [] ≡ codes "refused 5 at 0 by grammar\n"
-  pub unwanted-flag : line_on (codes "+(1,true)") ≡ codes "refused 11 at 4 by check\n"
-  pub salt-shown : line_on (salt ++ codes "(from salt take mg (from salt take more from salt take zero))") ≡ codes "done int 400 steps 22\n"
-  pub salt-hidden : line_on (salt ++ codes "+(from salt take zero,1)") ≡ codes "refused 11 at 154 by check\n"
-  pub salt-kept : line_on (salt ++ codes "from salt take zero") ≡ codes "done from salt take g hidden steps 8\n"
+  pub plain_number : line_on (codes "33") ≡ codes "done int 33 steps 2\n"
+  pub empty_text : line_on [] ≡ codes "refused 5 at 0 by grammar\n"
+  pub unwanted_flag : line_on (codes "+(1,true)") ≡ codes "refused 11 at 4 by check\n"
+  pub salt_shown : line_on (salt ++ codes "(from salt take mg (from salt take more from salt take zero))") ≡ codes "done int 400 steps 22\n"
+  pub salt_hidden : line_on (salt ++ codes "+(from salt take zero,1)") ≡ codes "refused 11 at 154 by check\n"
+  pub salt_kept : line_on (salt ++ codes "from salt take zero") ≡ codes "done from salt take g hidden steps 8\n"
   pub quotient : line_on (codes "/(-7,2)") ≡ codes "done int -3 steps 6\n"
   pub by_zero : line_on (codes "/(7,0)") ≡ codes "stop 27 steps 4\n"
   pub no_record : line_on (codes "(from pantry take kcal 5)") ≡ codes "stop 28 kcal 5 steps 4\n"

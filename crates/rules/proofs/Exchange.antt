@@ -6,8 +6,8 @@ use Rattle.language.specs.Names.{bind}
 use Rattle.language.specs.Syntax as language
 use Rattle.language.specs.Pantry.{Stock}
 use Rattle.language.specs.Typing.{ExpandedType, int, bool, Context, Interfaces, HasType, stock_types}
-use Rattle.language.specs.Modules.{seeing, Accepts, ModulesTyped, y-module}
-use Rattle.language.specs.Safety.{with_body, InterfacesAfter, i-none, i-more}
+use Rattle.language.specs.Modules.{seeing, Accepts, ModulesTyped, y_module}
+use Rattle.language.specs.Safety.{with_body, InterfacesAfter, i_none, i_more}
 use Rattle.language.proofs.Exchanged.{exchanged}
 use Rattle.grammar.specs.Syntax as placed
 use Rattle.grammar.specs.Syntax.{Module, Sheet}
@@ -49,9 +49,9 @@ modules-append tp sp (m ∷ ms) ks g ts =
 -- the interface of the last module accepts its body, behind the interfaces of those before it
 last-accepted : (s : Context) (ms : List language.Module) (m : language.Module) (n n' : Interfaces) →
     ModulesTyped s n (ms ++ (m ∷ [])) n' → (k : Interfaces) × InterfacesAfter s n ms k × Accepts k s m.interface m.body
-last-accepted s [] m n n' (y-module f g d o a t) = (n, i-none, a)
-last-accepted s (l ∷ ms) m n n' (y-module {i = i} f g d o a t) =
-    let (k, h, b) = last-accepted s ms m (n ++ (bind l.name i ∷ [])) n' t in (k, i-more o h, b)
+last-accepted s [] m n n' (y_module f g d o a t) = (n, i_none, a)
+last-accepted s (l ∷ ms) m n n' (y_module {i = i} f g d o a t) =
+    let (k, h, b) = last-accepted s ms m (n ++ (bind l.name i ∷ [])) n' t in (k, i_more o h, b)
 
 module _ (kinds : Stock) (tp sp : ℕ) where
   abbrev start : Out (List ExpandedType) Unit
@@ -71,13 +71,13 @@ module _ (kinds : Stock) (tp sp : ℕ) where
       sym (after-assoc start (λ _. check_modules tp sp ms (at_start kinds)) (λ g s. after (check_modules tp sp ks g s) (typing tp sp closing)))
 
   -- modules that pass are typed
-  modules-typed : (ms : List Module) (g : Scope) (ts : List ExpandedType) → checking_modules kinds tp sp ms ≡ good g ts →
+  modules_typed : (ms : List Module) (g : Scope) (ts : List ExpandedType) → checking_modules kinds tp sp ms ≡ good g ts →
       (n : Interfaces) × ModulesTyped (stock_types kinds) [] (map plain_m ms) n
-  modules-typed ms g ts e =
+  modules_typed ms g ts e =
       let t = (passing-sound kinds tp sp (sheet_of ms (placed.number 0 (pos 0))) int ts
       (sym (after-assoc start (λ _. check_modules tp sp ms (at_start kinds)) (λ _ s. good int s)) ∙
       ap (λ (o : Out (List ExpandedType) Scope). after o (λ _ s. good int s)) e)).0 in
-      (t.all, t.modules-typed)
+      (t.all, t.modules_typed)
 
   module _ (sheet sheet' : Sheet) (x : BodyExchanged sheet sheet') where
     -- the modules up to the one with the other body
@@ -95,7 +95,7 @@ module _ (kinds : Stock) (tp sp : ℕ) where
 
     passed-there : (g : Scope) (ts : List ExpandedType) → checking_modules kinds tp sp up_to_it ≡ good g ts → AcceptedByRules kinds x
     passed-there g ts e =
-        let (n, typed) = modules-typed up_to_it g ts e in
+        let (n, typed) = modules_typed up_to_it g ts e in
         last-accepted (stock_types kinds) (map plain_m x.before') (plain_m x.changed') [] n
         (subst (λ (ms : List language.Module). ModulesTyped (stock_types kinds) [] ms n)
         (map-append plain_m x.before' (x.changed' ∷ [])) typed)
@@ -104,12 +104,12 @@ module _ (kinds : Stock) (tp sp : ℕ) where
     new-typed r t (k, interfaces, accepts) =
         record {
           all = t.all;
-          modules-typed = subst (λ (ms : List language.Module). ModulesTyped (stock_types kinds) [] ms t.all) new
+          modules_typed = subst (λ (ms : List language.Module). ModulesTyped (stock_types kinds) [] ms t.all) new
               (exchanged (stock_types kinds) (map plain_m x.behind') (plain_m x.changed) body (map plain_m x.before') [] k t.all
-              (subst (λ (ms : List language.Module). ModulesTyped (stock_types kinds) [] ms t.all) old t.modules-typed) interfaces
-              (subst (λ (ds : List language.Declaration). Accepts k (stock_types kinds) ds body) (sym x.same-interface) accepts));
-          closing-typed = subst (λ (p : language.Exp). HasType (seeing [] t.all (stock_types kinds)) [] p r) x.same-closing
-              t.closing-typed;
+              (subst (λ (ms : List language.Module). ModulesTyped (stock_types kinds) [] ms t.all) old t.modules_typed) interfaces
+              (subst (λ (ds : List language.Declaration). Accepts k (stock_types kinds) ds body) (sym x.same_interface) accepts));
+          closing_typed = subst (λ (p : language.Exp). HasType (seeing [] t.all (stock_types kinds)) [] p r) x.same_closing
+              t.closing_typed;
         }
       where
         body : List language.Definition
@@ -117,14 +117,14 @@ module _ (kinds : Stock) (tp sp : ℕ) where
 
         old : map plain_m sheet.modules ≡ map plain_m x.before' ++ (plain_m x.changed ∷ map plain_m x.behind')
         old = ap (map plain_m) x.modules ∙ (map-append plain_m x.before (x.changed ∷ x.behind) ∙
-            ap₂ (λ (b a : List language.Module). b ++ (plain_m x.changed ∷ a)) x.same-before x.same-behind)
+            ap₂ (λ (b a : List language.Module). b ++ (plain_m x.changed ∷ a)) x.same_before x.same_behind)
 
         made : Name → List language.Declaration → language.Module
         made name interface = record { name = name; interface = interface; body = body }
 
         new : map plain_m x.before' ++ (with_body (plain_m x.changed) body ∷ map plain_m x.behind') ≡ map plain_m sheet'.modules
         new = ap (λ (m : language.Module). map plain_m x.before' ++ (m ∷ map plain_m x.behind'))
-            (ap₂ made x.same_name x.same-interface) ∙
+            (ap₂ made x.same_name x.same_interface) ∙
             (sym (map-append plain_m x.before' (x.changed' ∷ x.behind')) ∙ sym (ap (map plain_m) x.modules'))
 
     accepted-there : (r : ExpandedType) → Typed kinds sheet r → AcceptedByRules kinds x → Accepted kinds tp sp x

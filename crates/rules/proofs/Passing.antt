@@ -155,8 +155,8 @@ module _ (kinds : Stock) (tp sp : ℕ) (sheet : Sheet) where
       let (z, w) = and_parts (all_new (has_place tp sp) [] needed) (leb (0 + names_in (plain sheet)) sp) y in
       record {
         shallow = shallow-from tp sp [] needed tt x;
-        types-fit = places-from tp sp [] needed (omega arith) z;
-        names-fit = omega (arith, leb-true (0 + names_in (plain sheet)) sp w);
+        types_fit = places-from tp sp [] needed (omega arith) z;
+        names_fit = omega (arith, leb-true (0 + names_in (plain sheet)) sp w);
       }
 
   lacks-from : (f : CheckFault) → has_room f given ≡ false → Lacks kinds tp sp (plain sheet) f
@@ -186,8 +186,8 @@ module _ (kinds : Stock) (tp sp : ℕ) (sheet : Sheet) where
   lacks-not (Missing at) h w = h
   lacks-not (Mismatch at) h w = h
   lacks-not (TooDeep at) h w = h w.shallow
-  lacks-not (TypesFull at) h w = omega (arith, w.types-fit)
-  lacks-not (ScopeFull at) h w = omega (arith, w.names-fit)
+  lacks-not (TypesFull at) h w = omega (arith, w.types_fit)
+  lacks-not (ScopeFull at) h w = omega (arith, w.names_fit)
 
   good-from : (r : ExpandedType) (ts : List ExpandedType) → outcome ≡ good r ts →
       Typed kinds sheet r × (ts ≡ distinct_types kinds (plain sheet)) × Within kinds tp sp (plain sheet)
@@ -257,6 +257,6 @@ larger-tables kinds tp sp tp' sp' sheet r ts h k e =
     let w = x.2 in
     passes kinds tp' sp' sheet r x.0 (record {
       shallow = w.shallow;
-      types-fit = omega (arith, w.types-fit);
-      names-fit = omega (arith, w.names-fit);
+      types_fit = omega (arith, w.types_fit);
+      names_fit = omega (arith, w.names_fit);
     }) ∙ ap (good r) (sym x.1)

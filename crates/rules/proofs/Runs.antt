@@ -115,8 +115,8 @@ tied_at e f (tied-over a g x y z) = tied-over a g x (ap (has_room g) (sym e) ∙
 tied_at e f (tied-good a x y z) = tied-good a x (ap enough (sym e) ∙ y) (z ∙ ap (good a) f)
 
 -- the names have places, if there is enough room
-names-fit : (a b c : Bool) → a && (b && c) ≡ true → c ≡ true
-names-fit a b c h = (and_parts b c (and_parts a (b && c) h).1).1
+names_fit : (a b c : Bool) → a && (b && c) ≡ true → c ≡ true
+names_fit a b c h = (and_parts b c (and_parts a (b && c) h).1).1
 
 -- two outcomes and what follows them
 pub after-assoc : {A B C : Type 0} (o : Out Types A) (k : A → Types → Out Types B) (l : B → Types → Out Types C) →
@@ -199,7 +199,7 @@ module _ (type_places scope_places : ℕ) where
     tied =
         tied_at (fits_kept ts u ks ls n m) (sym (types-append ts ks ls)) (tied_then k q r.tied (λ a e x.
         (h a e (leb-true (u + n) scope_places
-        (names-fit (all_new is_shallow ts ks) (all_new has_place ts ks) (leb (u + n) scope_places) x))).tied));
+        (names_fit (all_new is_shallow ts ks) (all_new has_place ts ks) (leb (u + n) scope_places) x))).tied));
   }
 
   pub same-need : {A : Type 0} {o : Out Types A} {p : Option A} {ts : Types} {u : ℕ} {ks ls : Types} {n m : ℕ} → ks ≡ ls → n ≡ m →

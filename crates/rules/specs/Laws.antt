@@ -101,11 +101,11 @@ pub record BodyExchanged (sheet sheet' : Sheet) : Type 0 where
   pub behind' : List Module
   pub modules : sheet.modules ≡ before ++ (changed ∷ behind)
   pub modules' : sheet'.modules ≡ before' ++ (changed' ∷ behind')
-  pub same-before : map plain_m before ≡ map plain_m before'
+  pub same_before : map plain_m before ≡ map plain_m before'
   pub same_name : changed.name.bytes ≡ changed'.name.bytes
-  pub same-interface : map plain_d changed.interface ≡ map plain_d changed'.interface
-  pub same-behind : map plain_m behind ≡ map plain_m behind'
-  pub same-closing : plain_e sheet.closing ≡ plain_e sheet'.closing
+  pub same_interface : map plain_d changed.interface ≡ map plain_d changed'.interface
+  pub same_behind : map plain_m behind ≡ map plain_m behind'
+  pub same_closing : plain_e sheet.closing ≡ plain_e sheet'.closing
 
 -- the interface accepts the new body: as that module's body it draws none of 8 to 14, neither itself nor in matching
 abbrev pub Accepted : Stock → ℕ → ℕ → {sheet sheet' : Sheet} → BodyExchanged sheet sheet' → Type 0

@@ -166,5 +166,5 @@ names_in sheet = names_modules sheet.modules sheet.closing
 -- No limit and no table is exceeded: no type of the sheet is too deep, its distinct types and its names have places.
 pub record Within (kinds : Stock) (type_places scope_places : ℕ) (sheet : Sheet) : Type 0 where
   pub shallow : Shallow (formed kinds sheet)
-  pub types-fit : length (distinct_types kinds sheet) ≤ type_places
-  pub names-fit : names_in sheet ≤ scope_places
+  pub types_fit : length (distinct_types kinds sheet) ≤ type_places
+  pub names_fit : names_in sheet ≤ scope_places

@@ -16,7 +16,7 @@ use Rattle.rules.specs.Rules as rules
 use Rattle.typing.specs.declared.types.TypeEntry.{TypeEntry}
 use Rattle.typing.specs.declared.types.TypeEntry.TheVariants as entry
 use Rattle.typing.specs.Tables.{State, or, entry_at, depth_of, sides_of, is_arrow, is_hidden, alike, type_place, found_n, adding, deeper, arrow_n, hide_n}
-use Rattle.typing.specs.Stands.{Row, row-int, row-bool, row-hidden, row-arrow, Rows, rows_none, rows_more, Distinct, Stands}
+use Rattle.typing.specs.Stands.{Row, row_int, row_bool, row_hidden, row_arrow, Rows, rows_none, rows_more, Distinct, Stands}
 use Rattle.typing.proofs.Alike.{More, Tells, Alike, alike-bad, alike-good, next-refl, want-alike, Both, neither, each}
 
 -- the two tests of depth
@@ -40,29 +40,29 @@ Present text x k t es ts = (n : ℕ) × (type_place text x k es ≡ Some (k + n)
 
 module _ (text : List ℕ) where
   row-depth : {ts : List ExpandedType} {e : TypeEntry} {a : ExpandedType} → Row text ts e a → depth_of e ≡ depth a
-  row-depth row-int = refl
-  row-depth row-bool = refl
-  row-depth (row-hidden p q) = refl
-  row-depth (row-arrow p q r) = r
+  row-depth row_int = refl
+  row-depth row_bool = refl
+  row-depth (row_hidden p q) = refl
+  row-depth (row_arrow p q r) = r
 
   row-sides : {ts : List ExpandedType} {e : TypeEntry} {a : ExpandedType} → Row text ts e a → Both (λ (k : ℕ × ℕ) (x : ExpandedType × ExpandedType). (slice_get ts k.0 ≡ Some x.0) × (slice_get ts k.1 ≡ Some x.1)) (sides_of e) (rules.sides_of a)
-  row-sides row-int = neither
-  row-sides row-bool = neither
-  row-sides (row-hidden p q) = neither
-  row-sides (row-arrow p q r) = each (p, q)
+  row-sides row_int = neither
+  row-sides row_bool = neither
+  row-sides (row_hidden p q) = neither
+  row-sides (row_arrow p q r) = each (p, q)
 
   row_same : {ts : List ExpandedType} {e : TypeEntry} {t : ExpandedType} (i j : ℕ) (a b : ExpandedType) → Distinct ts → slice_get ts i ≡ Some a → slice_get ts j ≡ Some b → Row text ts e t → is_arrow i j e ≡ same_type t (a ⇒ b)
-  row_same i j a b d p q row-int = refl
-  row_same i j a b d p q row-bool = refl
-  row_same i j a b d p q (row-hidden x y) = refl
-  row_same {ts} i j a b d p q (row-arrow {i = k} {j = l} {a = x} {b = y} v w z) = rw (same-tells ts k i x a d v p, same-tells ts l j y b d w q)
+  row_same i j a b d p q row_int = refl
+  row_same i j a b d p q row_bool = refl
+  row_same i j a b d p q (row_hidden x y) = refl
+  row_same {ts} i j a b d p q (row_arrow {i = k} {j = l} {a = x} {b = y} v w z) = rw (same-tells ts k i x a d v p, same-tells ts l j y b d w q)
 
   hidden-same : {ts : List ExpandedType} {e : TypeEntry} {t : ExpandedType} (m x : Span) → Row text ts e t →
       is_hidden text m x e ≡ same_type t (hidden (spelled_in text m) (spelled_in text x))
-  hidden-same m x row-int = refl
-  hidden-same m x row-bool = refl
-  hidden-same m x (row-hidden p q) = rw (p, q)
-  hidden-same m x (row-arrow v w z) = refl
+  hidden-same m x row_int = refl
+  hidden-same m x row_bool = refl
+  hidden-same m x (row_hidden p q) = rw (p, q)
+  hidden-same m x (row_arrow v w z) = refl
 
   row_at : {us : List ExpandedType} {es : List TypeEntry} {ts : List ExpandedType} → Rows text us es ts → (i : ℕ) (a : ExpandedType) → slice_get ts i ≡ Some a → Row text us (or entry.Blank (slice_get es i)) a
   row_at rows_none i a e = let z : ◌≡◌ {A = ℕ} 0 1 = cc in absurd (omega arith)
@@ -70,10 +70,10 @@ module _ (text : List ℕ) where
   row_at (rows_more r rs) (suc i) a p = row_at rs i a p
 
   row_more : {ts us : List ExpandedType} {e : TypeEntry} {a : ExpandedType} → More ts us → Row text ts e a → Row text us e a
-  row_more m row-int = row-int
-  row_more m row-bool = row-bool
-  row_more m (row-hidden p q) = row-hidden p q
-  row_more m (row-arrow p q r) = row-arrow (m _ _ p) (m _ _ q) r
+  row_more m row_int = row_int
+  row_more m row_bool = row_bool
+  row_more m (row_hidden p q) = row_hidden p q
+  row_more m (row_arrow p q r) = row_arrow (m _ _ p) (m _ _ q) r
 
   rows-push : {ts us : List ExpandedType} {es : List TypeEntry} {us' : List ExpandedType} {e : TypeEntry} {a : ExpandedType} → More ts us → Rows text ts es us' → Row text us e a → Rows text us (es ++ e ∷ []) (us' ++ a ∷ [])
   rows-push m rows_none r = rows_more r rows_none
@@ -153,7 +153,7 @@ module _ (text : List ℕ) (tp sp : ℕ) (base : List TypeEntry) where
         count = ap (λ k. k + 1) h.count ∙ sym n;
         fits = rw (n, length-set s.types s.count x) (omega arith);
         types_long = rw (length-set s.types s.count x) h.types_long;
-        slots-long = h.slots-long;
+        slots_long = h.slots_long;
         rows = rw (n, h.count, take_more_set s.types (length ts) x l) (rows-push text (more-push ts t) h.rows (row_more text (more-push ts t) r));
         rest = rw (n, h.count, drop-more-set s.types (length ts) x) (rest-on (length ts) s.types base h.rest);
         distinct = distinct_push ts t h.distinct m;
@@ -200,7 +200,7 @@ module _ (text : List ℕ) (tp sp : ℕ) (base : List TypeEntry) where
       rw (searched s ts (entry.Arrow i j 0) None h n.0, d)
       (⊎_elim
       (λ (k : leb (depth (a ⇒ b)) 32 ≡ true). rw (depth-test (max (depth a) (depth b)), k)
-      (adding-alike at u s ts (entry.Arrow i j (max (depth a) (depth b) + 1)) (a ⇒ b) h (row-arrow p q refl) n.1 k))
+      (adding-alike at u s ts (entry.Arrow i j (max (depth a) (depth b) + 1)) (a ⇒ b) h (row_arrow p q refl) n.1 k))
       (λ (k : leb (depth (a ⇒ b)) 32 ≡ false). rw (depth-test (max (depth a) (depth b)), k) (deep-alike at u s ts (a ⇒ b) n.1 k))
       (cases_Bool (leb (depth (a ⇒ b)) 32))))
       (λ (y : Present text (entry.Arrow i j 0) 0 (a ⇒ b) (take (length ts) s.types) ts).
@@ -217,7 +217,7 @@ module _ (text : List ℕ) (tp sp : ℕ) (base : List TypeEntry) where
       ⊎_elim
       (λ (n : Absent text (entry.Hidden m x) 0 t (take (length ts) s.types) ts).
       rw (searched s ts (entry.Hidden m x) None h n.0)
-      (adding-alike at u s ts (entry.Hidden m x) t h (row-hidden refl refl) n.1 refl))
+      (adding-alike at u s ts (entry.Hidden m x) t h (row_hidden refl refl) n.1 refl))
       (λ (y : Present text (entry.Hidden m x) 0 t (take (length ts) s.types) ts).
       rw (searched s ts (entry.Hidden m x) (Some y.0) h (y.1 ∙ ap Some (zero-add y.0))) (there-alike at u y.0 s ts t h y.2 y.3))
       (found text (entry.Hidden m x) t 0 (λ e u r. hidden-same text m x r) h.rows)

@@ -30,7 +30,7 @@ use Rattle.typing.specs.declared.types.TypeEntry.{TypeEntry}
 use Rattle.typing.specs.Slots.{held_slot}
 use Rattle.typing.specs.Tables as table
 use Rattle.typing.specs.Tables.{State, binding, bound, enter_n, enter_type_n, nearest_n, or_else, interface_n, in_interface, declared_n, entry_n, taken_n}
-use Rattle.typing.specs.Stands.{Stands, Holding, no_name, type-name, value-name, Declares, declares, AllDeclare, none-declares, one-declares, Stocks, stocks-none, stocks-one, Scoped}
+use Rattle.typing.specs.Stands.{Stands, Holding, no_name, type_name, value_name, Declares, declares, AllDeclare, none_declares, one_declares, Stocks, stocks_none, stocks_one, Scoped}
 use Rattle.typing.proofs.Alike.{More, Next, Alike, alike-good, want-within, Both, neither, each}
 
 -- a number and the type that it tells
@@ -56,22 +56,22 @@ module _ {text : List ℕ} {ts : List ExpandedType} {slots : List Slot} {first :
   -- links lead to places in use
   pub types-low : {u t v : ℕ} {ms : List Made} → Holding text ts slots first u t v ms → t ≤ u
   types-low no_name = omega arith
-  types-low (type-name p q r o h) = omega arith
-  types-low (value-name p q r o h) = omega (arith, types-low h)
+  types-low (type_name p q r o h) = omega arith
+  types-low (value_name p q r o h) = omega (arith, types-low h)
 
   pub values_low : {u t v : ℕ} {ms : List Made} → Holding text ts slots first u t v ms → v ≤ u
   values_low no_name = omega arith
-  values_low (type-name p q r o h) = omega (arith, values_low h)
-  values_low (value-name p q r o h) = omega arith
+  values_low (type_name p q r o h) = omega (arith, values_low h)
+  values_low (value_name p q r o h) = omega arith
 
   -- what is held stays so while the places in use and the types stay
   pub holding-kept : {u t v : ℕ} {ms : List Made} (n : ℕ) (us : List ExpandedType) (rs : List Slot) → u ≤ n → take n rs ≡ take n slots → More ts us →
       Holding text ts slots first u t v ms → Holding text us rs first u t v ms
   holding-kept n us rs l e m no_name = no_name
-  holding-kept n us rs l e m (type-name {u = u} p q r o h) =
-      type-name (elem-front n slots rs u (omega arith) e ∙ p) q (m _ _ r) o (holding-kept n us rs (omega arith) e m h)
-  holding-kept n us rs l e m (value-name {u = u} p q r o h) =
-      value-name (elem-front n slots rs u (omega arith) e ∙ p) q (m _ _ r) o (holding-kept n us rs (omega arith) e m h)
+  holding-kept n us rs l e m (type_name {u = u} p q r o h) =
+      type_name (elem-front n slots rs u (omega arith) e ∙ p) q (m _ _ r) o (holding-kept n us rs (omega arith) e m h)
+  holding-kept n us rs l e m (value_name {u = u} p q r o h) =
+      value_name (elem-front n slots rs u (omega arith) e ∙ p) q (m _ _ r) o (holding-kept n us rs (omega arith) e m h)
 
 -- the answer of a search that follows at most n links
 abbrev answer : List ℕ → List Slot → ℕ → ℕ → Name → Option ℕ
@@ -96,18 +96,18 @@ module _ {text : List ℕ} {ts : List ExpandedType} {slots : List Slot} {first :
   pub types-both : {u t v : ℕ} {ms : List Made} (n : ℕ) (x : Name) → t ≤ n → Holding text ts slots first u t v ms →
       Both (Told ts) (answer text slots n t x) (option_of (lookup (types_of ms) x))
   types-both n x l no_name = rw (at-end text slots n x) neither
-  types-both zero x l (type-name p q r o h) = absurd (omega arith)
-  types-both (suc n) x l (type-name {u = u} {b = b} {x = y} {a = a} p q r o h) =
+  types-both zero x l (type_name p q r o h) = absurd (omega arith)
+  types-both (suc n) x l (type_name {u = u} {b = b} {x = y} {a = a} p q r o h) =
       rw (at_name text slots n u (slot.OfType b) b x refl p, q, o)
       (nearer (same_name y x) b.value a _ _ r (types-both n x (omega (arith, types-low h)) h))
-  types-both n x l (value-name p q r o h) = types-both n x l h
+  types-both n x l (value_name p q r o h) = types-both n x l h
 
   pub values-both : {u t v : ℕ} {ms : List Made} (n : ℕ) (x : Name) → v ≤ n → Holding text ts slots first u t v ms →
       Both (Told ts) (answer text slots n v x) (option_of (lookup (values_of ms) x))
   values-both n x l no_name = rw (at-end text slots n x) neither
-  values-both n x l (type-name p q r o h) = values-both n x l h
-  values-both zero x l (value-name p q r o h) = absurd (omega arith)
-  values-both (suc n) x l (value-name {u = u} {b = b} {x = y} {a = a} p q r o h) =
+  values-both n x l (type_name p q r o h) = values-both n x l h
+  values-both zero x l (value_name p q r o h) = absurd (omega arith)
+  values-both (suc n) x l (value_name {u = u} {b = b} {x = y} {a = a} p q r o h) =
       rw (at_name text slots n u (slot.OfValue b) b x refl p, q, o)
       (nearer (same_name y x) b.value a _ _ r (values-both n x (omega (arith, values_low h)) h))
 
@@ -130,9 +130,9 @@ module _ (text : List ℕ) where
 
   pub all-kept : (ts us : List ExpandedType) (ss rs : List Slot) (n m : ℕ) {is : List Interface} {js : Interfaces} → n ≤ m →
       take n rs ≡ take n ss → More ts us → AllDeclare text ts ss n is js → AllDeclare text us rs m is js
-  all-kept ts us ss rs n m l e more none-declares = none-declares
-  all-kept ts us ss rs n m l e more (one-declares h hs) =
-      one-declares (declares-kept ts us ss rs n m l e more h) (all-kept ts us ss rs n m l e more hs)
+  all-kept ts us ss rs n m l e more none_declares = none_declares
+  all-kept ts us ss rs n m l e more (one_declares h hs) =
+      one_declares (declares-kept ts us ss rs n m l e more h) (all-kept ts us ss rs n m l e more hs)
 
   -- the interface of a name
   pub data BothDeclare (ts : List ExpandedType) (ss : List Slot) (n : ℕ) : Option Interface → Maybe typing.Interface → Type 0 where
@@ -142,8 +142,8 @@ module _ (text : List ℕ) where
 
   pub interface-both : (ts : List ExpandedType) (ss : List Slot) (n : ℕ) {is : List Interface} {js : Interfaces} (m : Name) →
       AllDeclare text ts ss n is js → BothDeclare ts ss n (interface_n text m is) (lookup js m)
-  interface-both ts ss n m none-declares = neither-declares
-  interface-both ts ss n {is = i ∷ is} {js = bind x k ∷ js} m (one-declares (declares {ms = ms} q l h) hs) =
+  interface-both ts ss n m none_declares = neither-declares
+  interface-both ts ss n {is = i ∷ is} {js = bind x k ∷ js} m (one_declares (declares {ms = ms} q l h) hs) =
       rw q (elim (same_name x m) as (λ c. BothDeclare ts ss n (or_else c i (interface_n text m is)) (cond c (some (interface_of ms)) (lookup js m)))
       [ true ↦ both-declare l h | false ↦ interface-both ts ss n m hs ])
 
@@ -166,12 +166,12 @@ either false o o' p p' h k = k
 
 -- the pantry's entries
 pub stocks-kept : {ts us : List ExpandedType} {es : List Known} {c : Context} → More ts us → Stocks ts es c → Stocks us es c
-stocks-kept m stocks-none = stocks-none
-stocks-kept m (stocks-one e q h) = stocks-one e (m _ _ q) (stocks-kept m h)
+stocks-kept m stocks_none = stocks_none
+stocks-kept m (stocks_one e q h) = stocks_one e (m _ _ q) (stocks-kept m h)
 
 entry-both : {ts : List ExpandedType} {es : List Known} {c : Context} (x : Name) → Stocks ts es c → Both (Told ts) (entry_n x es) (option_of (lookup c x))
-entry-both x stocks-none = neither
-entry-both {ts} x (stocks-one {e = e} {x = y} {a = a} {es = es} {c = c} p q h) =
+entry-both x stocks_none = neither
+entry-both {ts} x (stocks_one {e = e} {x = y} {a = a} {es = es} {c = c} p q h) =
     rw p (elim (same_name y x) as (λ b. Both (Told ts) (or_else b e.of (entry_n x es)) (option_of (cond b (some a) (lookup c x))))
     [ true ↦ each q | false ↦ entry-both x h ])
 
@@ -232,7 +232,7 @@ module _ (w : Given) (tp sp : ℕ) (base : List TypeEntry) (first : ℕ) where
     count = st.count;
     fits = st.fits;
     types_long = st.types_long;
-    slots-long = rw (length-set s.slots n v) st.slots-long;
+    slots_long = rw (length-set s.slots n v) st.slots_long;
     rows = st.rows;
     rest = st.rest;
     distinct = st.distinct;
@@ -271,10 +271,10 @@ module _ (w : Given) (tp sp : ℕ) (base : List TypeEntry) (first : ℕ) where
         let v = slot.OfValue (bound x k g.values) in
         let f = take-set s.slots g.used v in
         want-within text tp sp base (ltb g.used (min (length s.slots) 65535)) (ltb h.used sp) (ScopeFull at) (ScopeFull at) _ _ _
-        (rw (c.used, st.slots-long)) refl
+        (rw (c.used, st.slots_long)) refl
         (λ t. alike-good (record { stands = stands-slots s ts g.used v st; more = λ i b z. z; front = f })
         (entered v (made_value (name_in text x).bytes a) (record { used = g.used + 1; types = g.types; values = g.used + 1 }) refl
-        (λ l. rw (add-one g.used) (value-name (elem-set s.slots g.used v l) refl e refl
+        (λ l. rw (add-one g.used) (value_name (elem-set s.slots g.used v l) refl e refl
         (holding-kept g.used ts (set s.slots g.used v) (omega arith) f (λ i b z. z) c.names))) t))
 
     pub enter-type-alike : Alike text tp sp base (Inner g.used) g.used s ts (enter_type_n at g x k s)
@@ -284,8 +284,8 @@ module _ (w : Given) (tp sp : ℕ) (base : List TypeEntry) (first : ℕ) where
         let v = slot.OfType (bound x k g.types) in
         let f = take-set s.slots g.used v in
         want-within text tp sp base (ltb g.used (min (length s.slots) 65535)) (ltb h.used sp) (ScopeFull at) (ScopeFull at) _ _ _
-        (rw (c.used, st.slots-long)) refl
+        (rw (c.used, st.slots_long)) refl
         (λ t. alike-good (record { stands = stands-slots s ts g.used v st; more = λ i b z. z; front = f })
         (entered v (made_type (name_in text x).bytes a) (record { used = g.used + 1; types = g.used + 1; values = g.values }) refl
-        (λ l. rw (add-one g.used) (type-name (elem-set s.slots g.used v l) refl e refl
+        (λ l. rw (add-one g.used) (type_name (elem-set s.slots g.used v l) refl e refl
         (holding-kept g.used ts (set s.slots g.used v) (omega arith) f (λ i b z. z) c.names))) t))

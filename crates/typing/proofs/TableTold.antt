@@ -8,7 +8,7 @@ use Rattle.language.specs.Typing.{ExpandedType, int, bool, hidden, ◌⇒◌}
 use Rattle.rules.specs.Rules.{depth}
 use Rattle.typing.specs.declared.types.TypeEntry.{TypeEntry}
 use Rattle.typing.specs.declared.types.TypeEntry.TheVariants.{Blank}
-use Rattle.typing.specs.Stands.{Row, row-int, row-bool, row-hidden, row-arrow, Rows, rows_none, rows_more}
+use Rattle.typing.specs.Stands.{Row, row_int, row_bool, row_hidden, row_arrow, Rows, rows_none, rows_more}
 use Rattle.typing.specs.Told.{entry_told, type_of_entry, type_within, TableTold}
 
 pub entry_past : (types : List TypeEntry) (i : ℕ) → (65535 ≤ i) ⊎ (length types ≤ i) → entry_told types i ≡ Blank
@@ -50,10 +50,10 @@ module _ (text : List ℕ) (ts : List ExpandedType) where
   by_row : (types : List TypeEntry) (l : ℕ) (x : TypeEntry) (a : ExpandedType) → Row text ts x a → depth a ≤ suc l →
       ((k : ℕ) (b : ExpandedType) → depth b ≤ l → slice_get ts k ≡ Some b → type_within l text types k ≡ b) →
       type_of_entry text (type_within l text types) x ≡ a
-  by_row types l x a row-int h more = refl
-  by_row types l x a row-bool h more = refl
-  by_row types l x a (row-hidden p q) h more = cc
-  by_row types l x a (row-arrow {a = b} {b = c} p q d) h more =
+  by_row types l x a row_int h more = refl
+  by_row types l x a row_bool h more = refl
+  by_row types l x a (row_hidden p q) h more = cc
+  by_row types l x a (row_arrow {a = b} {b = c} p q d) h more =
       let from = more _ b (omega arith) p in
       let to = more _ c (omega arith) q in
       cc

@@ -27,10 +27,10 @@ use Rattle.typing.specs.Tables.{State}
 
 -- an entry of the type table stands for a type; an arrow's sides are told by their places in the list ts of all types
 pub data Row (text : List ℕ) (ts : List ExpandedType) : TypeEntry → ExpandedType → Type 0 where
-  row-int : Row text ts entry.Int int
-  row-bool : Row text ts entry.Bool bool
-  row-hidden : {m t : Span} {x y : Name} → spelled_in text m ≡ x → spelled_in text t ≡ y → Row text ts (entry.Hidden m t) (hidden x y)
-  row-arrow : {i j d : ℕ} {a b : ExpandedType} → slice_get ts i ≡ Some a → slice_get ts j ≡ Some b → d ≡ depth (a ⇒ b) →
+  row_int : Row text ts entry.Int int
+  row_bool : Row text ts entry.Bool bool
+  row_hidden : {m t : Span} {x y : Name} → spelled_in text m ≡ x → spelled_in text t ≡ y → Row text ts (entry.Hidden m t) (hidden x y)
+  row_arrow : {i j d : ℕ} {a b : ExpandedType} → slice_get ts i ≡ Some a → slice_get ts j ≡ Some b → d ≡ depth (a ⇒ b) →
       Row text ts (entry.Arrow i j d) (a ⇒ b)
 
 -- the entries stand for the types, one by one
@@ -48,7 +48,7 @@ pub record Stands (text : List ℕ) (type_places scope_places : ℕ) (base : Lis
   pub count : s.count ≡ length ts
   pub fits : length ts ≤ length s.types
   pub types_long : min (length s.types) 65535 ≡ type_places
-  pub slots-long : min (length s.slots) 65535 ≡ scope_places
+  pub slots_long : min (length s.slots) 65535 ≡ scope_places
   pub rows : Rows text ts (take (length ts) s.types) ts
   pub rest : drop (length ts) s.types ≡ drop (length ts) base
   pub distinct : Distinct ts
@@ -57,10 +57,10 @@ pub record Stands (text : List ℕ) (type_places scope_places : ℕ) (base : Lis
 -- lead to the latest type name and to the latest value name.
 pub data Holding (text : List ℕ) (ts : List ExpandedType) (slots : List Slot) (first : ℕ) : (used types values : ℕ) → List Made → Type 0 where
   no_name : Holding text ts slots first first 0 0 []
-  type-name : {u t v : ℕ} {b : Binding ℕ} {x : Name} {a : ExpandedType} {ms : List Made} → get_elem? slots u ≡ some (slot.OfType b) →
+  type_name : {u t v : ℕ} {b : Binding ℕ} {x : Name} {a : ExpandedType} {ms : List Made} → get_elem? slots u ≡ some (slot.OfType b) →
       spelled_in text b.name ≡ x → slice_get ts b.value ≡ Some a → b.outer ≡ t → Holding text ts slots first u t v ms →
       Holding text ts slots first (suc u) (suc u) v (made_type x a ∷ ms)
-  value-name : {u t v : ℕ} {b : Binding ℕ} {x : Name} {a : ExpandedType} {ms : List Made} → get_elem? slots u ≡ some (slot.OfValue b) →
+  value_name : {u t v : ℕ} {b : Binding ℕ} {x : Name} {a : ExpandedType} {ms : List Made} → get_elem? slots u ≡ some (slot.OfValue b) →
       spelled_in text b.name ≡ x → slice_get ts b.value ≡ Some a → b.outer ≡ v → Holding text ts slots first u t v ms →
       Holding text ts slots first (suc u) t (suc u) (made_value x a ∷ ms)
 
@@ -71,14 +71,14 @@ pub data Declares (text : List ℕ) (ts : List ExpandedType) (slots : List Slot)
 
 -- the interfaces of the earlier modules, one by one
 pub data AllDeclare (text : List ℕ) (ts : List ExpandedType) (slots : List Slot) (n : ℕ) : List Interface → Interfaces → Type 0 where
-  none-declares : AllDeclare text ts slots n [] []
-  one-declares : {i : Interface} {j : names.Binding typing.Interface} {is : List Interface} {js : Interfaces} → Declares text ts slots n i j →
+  none_declares : AllDeclare text ts slots n [] []
+  one_declares : {i : Interface} {j : names.Binding typing.Interface} {is : List Interface} {js : Interfaces} → Declares text ts slots n i j →
       AllDeclare text ts slots n is js → AllDeclare text ts slots n (i ∷ is) (j ∷ js)
 
 -- the pantry's entries, one by one
 pub data Stocks (ts : List ExpandedType) : List Known → Context → Type 0 where
-  stocks-none : Stocks ts [] []
-  stocks-one : {e : Known} {x : Name} {a : ExpandedType} {es : List Known} {c : Context} → e.name.now ≡ x → slice_get ts e.of ≡ Some a →
+  stocks_none : Stocks ts [] []
+  stocks_one : {e : Known} {x : Name} {a : ExpandedType} {es : List Known} {c : Context} → e.name.now ≡ x → slice_get ts e.of ≡ Some a →
       Stocks ts es c → Stocks ts (e ∷ es) (bind x a ∷ c)
 
 -- a scope of the tables, whose first name has the place `first`, stands for what is in scope by the rules

@@ -332,7 +332,7 @@ pub record Kept (s t : Tables) : Type 0 where
   pub types_same : t.types.ghost_name ≡ s.types.ghost_name
   pub slots_same : t.slots.ghost_name ≡ s.slots.ghost_name
   pub types_long : length t.types.now ≡ length s.types.now
-  pub slots-long : length t.slots.now ≡ length s.slots.now
+  pub slots_long : length t.slots.now ≡ length s.slots.now
 
 pub record Done {A : Type 0} (a : A) (x : State) (r : Result A CheckFault) (t : Tables) : Type 0 where
   pub result : r ≡ Ok a

@@ -18,7 +18,7 @@ blank = record { name = record { ref_ptr = (0, 0); now = [] }; kind = kind.Figur
 
 pub loop-i-init : goal.loop-i-init
 loop-i-init c = (
-  record { given = refl; types_same = refl; slots_same = refl; types_long = refl; slots-long = refl },
+  record { given = refl; types_same = refl; slots_same = refl; types_long = refl; slots_long = refl },
   λ base tp sp ts b. entering-start c.args.tables.now.given.text.now base tp sp c.args.entries.now ts c.args.known.now (state_of c.args.tables.now) b,
 )
 

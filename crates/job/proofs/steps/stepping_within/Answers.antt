@@ -25,7 +25,7 @@ returns g c =
           (lent frames c.limited-f.result m) (sym (back frames fs c.limited-f.result m l)) c.stepping.ensures.is;
       behind = record {
         cells_stay = behind cells cs c.limited-c.result n k;
-        frames-stay = behind frames fs c.limited-f.result m
+        frames_stay = behind frames fs c.limited-f.result m
             l;
       };
       size = c.stepping.ensures.size;

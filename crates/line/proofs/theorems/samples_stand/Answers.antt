@@ -9,12 +9,12 @@ pub returns : goal.returns
 unfolding digits part_of refusal_bytes entry_told type_within
 returns c =
     record {
-      thirty-three = refl;
-      minus-three = refl;
+      thirty_three = refl;
+      minus_three = refl;
       boolean = refl;
-      integer-hidden = refl;
+      integer_hidden = refl;
       arrow = refl;
-      under-way = refl;
+      under_way = refl;
       by_zero = refl;
       no_answer = refl;
       unwanted = refl;

@@ -15,7 +15,7 @@ returns-in_default g c =
     job.scopes job.progress.status job.progress.steps c.args.allowance c.in_default.not-Running in
     record {
       is = e;
-      behind = record { cells_stay = refl; frames-stay = refl };
+      behind = record { cells_stay = refl; frames_stay = refl };
       adds = λ b. adds plan m c.args.allowance b _ _ e;
       pass = record { text = refl; tree = refl; close = refl };
     }
