@@ -229,23 +229,18 @@ impl Tables<'_, '_, '_> {
         ensures kept { Kept self.old self.new }
         ensures gives { Gives (enter_n at scope name ty) result self.old self.new }
     {
-        let Scope {
-            used,
-            types,
-            values,
-        } = scope;
         let link = self.bind(
             at,
-            used,
+            scope.used,
             Slot::OfValue(Binding {
                 name,
                 value: ty,
-                outer: values,
+                outer: scope.values,
             }),
         )?;
         Ok(Scope {
             used: link,
-            types,
+            types: scope.types,
             values: link,
         })
     }
@@ -261,24 +256,19 @@ impl Tables<'_, '_, '_> {
         ensures kept { Kept self.old self.new }
         ensures gives { Gives (enter_type_n at scope name ty) result self.old self.new }
     {
-        let Scope {
-            used,
-            types,
-            values,
-        } = scope;
         let link = self.bind(
             at,
-            used,
+            scope.used,
             Slot::OfType(Binding {
                 name,
                 value: ty,
-                outer: types,
+                outer: scope.types,
             }),
         )?;
         Ok(Scope {
             used: link,
             types: link,
-            values,
+            values: scope.values,
         })
     }
 
