@@ -4,7 +4,7 @@ use Rattle.pantry.specs.Format.{file_of}
 use Rattle.results.specs.declared.setups.Setup.{Setup}
 use Rattle.results.specs.Panel.{printed}
 
--- the tables, the allowance and the buffer of the program `panel`
+-- the tables, the allowance and the buffer of the program `result_panel`
 abbrev pub panel_setup : Setup
 panel_setup = record { tree = 2048; types = 2048; scope = 2048; cells = 2048; frames = 2048; allowance = 1000000; buffer = 65536 }
 

@@ -11,7 +11,7 @@ pub struct Setup {
 }
 
 impl Setup {
-    // What the program `panel` runs with.
+    // What the program `result_panel` runs with.
     pub const PANEL: Setup = Setup {
         tree: 2048,
         types: 2048,
