@@ -33,6 +33,15 @@ fn fill(text: &[u8], tree: &mut [Node]) -> Result<u16, Fault>
     reader.whole_sheet()
 }
 
+// Answers a refusal, over a blank table.
+fn refused(tree: &mut [Node], fault: Fault) -> Result<u16, Fault>
+    ensures leaves { tree.new ≡ blanked tree.old }
+    ensures answers { result ≡ Err fault }
+{
+    blank(tree); // a refusal leaves nothing behind
+    Err(fault)
+}
+
 // Reads a text into the table: the nodes of its sheet from place 0 on, then blank places. The answer is the place of the closing
 // expression, the last of the nodes.
 pub fn read(text: &[u8], tree: &mut [Node]) -> Result<u16, Fault>
@@ -43,10 +52,7 @@ pub fn read(text: &[u8], tree: &mut [Node]) -> Result<u16, Fault>
     blank(tree);
     match fill(text, tree) {
         Ok(close) => Ok(close),
-        Err(fault) => {
-            blank(tree); // a refusal leaves nothing behind
-            Err(fault)
-        }
+        Err(fault) => refused(tree, fault),
     }
 }
 
