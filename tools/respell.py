@@ -52,7 +52,6 @@ WORD = re.compile(r"(?<![\w'′\-₀-₉ℕℤ])[A-Za-z_]" + LETTER + "*")
 CAMEL = re.compile(r"[a-z][a-z0-9_]*[A-Z]|.*-[a-z0-9]*[a-z][A-Z]")
 DASHED = re.compile(r"[A-Z][A-Za-z]*-[a-z0-9-]+$")
 STRING = re.compile(r'b?"(?:[^"\\]|\\.)*"')
-OLD = re.compile(r"Rattle·(\w+)(·(?=specs|proofs))?")
 
 
 def snake(word):
