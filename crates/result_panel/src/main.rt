@@ -2,7 +2,6 @@
 #![tactic(auto)]
 
 use pantry::loading::EMPTY_FILE;
-use results::Setup;
 use std::io::{Read, Write};
 use std::{fs, io};
 
@@ -21,7 +20,7 @@ fn run(rt: &HostRuntime) -> anyhow::Result<()> {
     let file = items(rt)?;
     let mut text = Vec::new(rt.alloc());
     rt.stdin().read_to_end(&mut text)?;
-    let line = results::line(rt.alloc(), &file, &text, Setup::PANEL)?;
+    let line = results::line(rt.alloc(), &file, &text, results::panel())?;
     rt.stdout().write_all(&line)?;
     Ok(())
 }

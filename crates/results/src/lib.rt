@@ -5,5 +5,5 @@ pub mod printing;
 pub mod setups;
 mod telling;
 
-pub use printing::line;
+pub use printing::{line, panel};
 pub use setups::Setup;

@@ -2,7 +2,7 @@ ghost use Rattle.std.specs.Prelude.{◌≡◌, ◌<◌, ◌≤◌, IfOk};
 ghost use Rattle.line.specs.Faults.{line_refusal};
 ghost use Rattle.line.specs.Lines.{refusal_bytes};
 ghost use Rattle.results.specs.Panel.{printed};
-ghost use Rattle.results.specs.Samples.{Samples};
+ghost use Rattle.results.specs.Samples.{Samples, panel_setup};
 
 use crate::setups::Setup;
 use crate::telling::tell;
@@ -53,6 +53,13 @@ fn print(heap: Global, file: &[u8], text: &[u8], setup: Setup) -> Result<Vec<u8>
         }
         Err(fault) => refused(heap, fault),
     }
+}
+
+// What the program `result_panel` runs with, and the samples are proved with.
+pub fn panel() -> Setup
+    ensures { result ≡ panel_setup }
+{
+    Setup::PANEL
 }
 
 // The line on an item file and a sheet, by a program with this setup.
