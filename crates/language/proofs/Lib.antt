@@ -1,4 +1,3 @@
-pub mod Parts
 pub mod Searches
 pub mod Alike
 pub mod Same

@@ -8,7 +8,7 @@ use words::names::same_name;
 
 // A name in scope, what it is bound to, and the link to the next outer binding. A link is one more than a place of the table; 0 is the
 // empty scope.
-#[derive(Clone, Copy)]
+#[derive(Clone, Copy, Debug, PartialEq, Eq)]
 pub struct Binding<V> {
     pub name: Span,
     pub value: V,
@@ -33,16 +33,13 @@ pub fn nearest<T: Holds>(text: &[u8], table: &[T], start: u16, name: &[u8]) -> O
     ensures { result ≡ option_of (nearest_in (bindings_in T.held text.now table.now) start name.now) }
 {
     let mut link = start;
-    let mut left = LINKS;
-    while left > 0 && link > 0 && usize::from(link) <= table.len() {
-        let Some(b) = table[usize::from(link) - 1].binding(link) else {
-            return None;
-        };
+    for _ in 0..LINKS {
+        let place = usize::from(link).checked_sub(1)?;
+        let b = table.get(place)?.binding(link)?;
         if same_name(spelled(text, b.name), name) {
             return Some(b.value);
         }
         link = b.outer;
-        left -= 1;
     }
     None
 }

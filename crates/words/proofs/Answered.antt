@@ -1,16 +1,21 @@
 -- What an answer of the cursor says, from what is read behind the gap that the code has passed. Assumes nothing.
-use Rattle.std.proofs.Common.{◌≡◌, ℕ, ◌+◌, ◌-◌, ◌<◌, ◌≤◌, false, List, length, take, drop, Some, None, Ok, Err, Option, Result, sym, ap, ◌∙◌, subst, arith, length-drop, length-take}
+use Rattle.std.proofs.Common.{◌≡◌, ℕ, ◌+◌, ◌<◌, ◌≤◌, false, List, length, drop, Some, None, Ok, Err, Option, Result, sym, ap, ◌∙◌, subst, arith, length-drop}
 use Rattle.words.specs.declared.faults.Fault.{Fault}
 use Rattle.words.specs.declared.tokens.Token.{Token}
 use Rattle.words.specs.Words.{gap, first, start, scan, behind, next_place, There, Small}
 use Rattle.words.specs.Shown.{shown, width_of, Part}
-use Rattle.words.proofs.Parts.{start_is, scan-is, ended, there}
+use Rattle.words.proofs.Parts.{ended, there}
 use Rattle.words.proofs.Sizes.{small}
 
-module _ (text : List ℕ) (at n : ℕ) (skipped : n ≡ gap false (take (length text - at) (drop at text))) (r : Result (Option Token) Fault)
-    (told : shown r ≡ first (at + n) (take (length text - (at + n)) (drop (at + n) text))) where
+module _ (text : List ℕ) (at n : ℕ) (skipped : n ≡ gap false (drop at text)) (r : Result (Option Token) Fault)
+    (told : shown r ≡ first (at + n) (drop (at + n) text)) where
+  start_is : at + n ≡ start text at
+  unfolding start
+  start_is = ap (λ m. at + m) skipped
+
   pub reads : shown r ≡ scan text at
-  reads = told ∙ scan-is text at n skipped
+  unfolding scan
+  reads = told ∙ ap (λ p. first p (drop p text)) start_is
 
   pub is-small : Small (shown r)
   unfolding scan
@@ -21,17 +26,15 @@ module _ (text : List ℕ) (at n : ℕ) (skipped : n ≡ gap false (take (length
   is-part = subst (There (start text at) (drop (start text at) text)) (sym reads) (there (start text at) (drop (start text at) text))
 
   place_is : behind (at + n) (shown r) ≡ next_place text at
-  place_is = ap (behind (at + n)) reads ∙ ap (λ p. behind p (scan text at)) (start_is text at n skipped)
+  place_is = ap (behind (at + n)) reads ∙ ap (λ p. behind p (scan text at)) start_is
 
   -- a token moves the cursor behind it
   pub moved : (t : Token) → r ≡ Ok (Some t)
       → (at + n + width_of t ≡ next_place text at) × (at + n + width_of t ≤ length text) × (at < at + n + width_of t)
   moved t e =
-      let rest = take (length text - (at + n)) (drop (at + n) text) in
-      let read = ap shown (sym e) ∙ told in
-      let (ends, fits, some) = ended (at + n) rest t read in (
+      let (ends, fits, some) = ended (at + n) (drop (at + n) text) t (ap shown (sym e) ∙ told) in (
         ends ∙ ap (behind (at + n)) (sym told) ∙ place_is,
-        omega (arith, length-take (length text - (at + n)) (drop (at + n) text), length-drop (at + n) text),
+        omega (arith, length-drop (at + n) text),
         omega arith,
       )
 

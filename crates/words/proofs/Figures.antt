@@ -1,4 +1,4 @@
--- The three ways in which a number is read. Assumes nothing.
+-- Two ways in which a number is read. Assumes nothing.
 use Rattle.std.proofs.Common.{◌≡◌, ℕ, ◌+◌, ◌≤◌, Bool, true, false, cond, eqb, leb, List, get_or, take, drop, pos, neg_ℤ, Some, None, Option, sym, refl, ap, ◌∙◌, arith}
 use Rattle.std.proofs.lemmas.Bool.{cond-true, cond-false, eq-eqb, leb-true}
 use Rattle.words.specs.Classes.{class_of}
@@ -7,9 +7,6 @@ use Rattle.words.specs.Words.Kind.{number}
 use Rattle.words.specs.Words.Reading.{word, fault}
 
 module _ (p s n : ℕ) (bs : List ℕ) (run : n ≡ digit_run (drop s bs)) where
-  pub stray : is_letter (class_of (get_or bs (s + n) 0)) ≡ true → fault 2 (p + (s + n)) ≡ numbered p s bs
-  stray l = sym (cond-true _ _ _ l) ∙ ap (λ k. figured p s k bs) run
-
   pub large : is_letter (class_of (get_or bs (s + n) 0)) ≡ false → leb (value (take n (drop s bs))) largest ≡ false
       → fault 4 p ≡ numbered p s bs
   large l v = sym (cond-false _ _ _ l ∙ cond-false _ _ _ v) ∙ ap (λ k. figured p s k bs) run

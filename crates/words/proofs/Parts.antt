@@ -1,6 +1,5 @@
 -- A word that is read is a part of the text. Assumes nothing.
-use Rattle.std.proofs.Common.{◌≡◌, ℕ, zero, suc, ◌+◌, ◌-◌, ◌<◌, ◌≤◌, false, cond, eqb, leb, List, [], ◌∷◌, length, get_or, take, drop, Some, None, Option, sym, refl, ap, ◌∙◌, subst, arith, length-take}
-use Rattle.std.proofs.lemmas.List.{take_rest}
+use Rattle.std.proofs.Common.{◌≡◌, ℕ, zero, suc, ◌+◌, ◌<◌, ◌≤◌, cond, eqb, leb, List, [], ◌∷◌, length, get_or, take, drop, Some, None, Option, sym, refl, ap, ◌∙◌, subst, arith, length-take}
 use Rattle.std.proofs.lemmas.Bool.{cond_both, cond-true, eqb-true}
 use Rattle.std.proofs.lemmas.Bool.Decides.{nat_tests}
 use Rattle.words.specs.declared.classes.Class.{Class}
@@ -11,8 +10,8 @@ use Rattle.words.specs.declared.marks.Mark.TheVariants.{Arrow, Minus}
 use Rattle.words.specs.declared.tokens.Token.{Token}
 use Rattle.words.specs.declared.tokens.Token.TheVariants.{Name, Number, Key, Sign as Signed}
 use Rattle.words.specs.Spelling.{mark_of, drawn, marks, keyword_of}
-use Rattle.words.specs.Words.{gap, goes, name_run, digit_run, is_digit, is_letter, value, largest, name_kind, named, figured, numbered}
-use Rattle.words.specs.Words.{dashed, marked, begins, first, start, scan, behind, There}
+use Rattle.words.specs.Words.{goes, name_run, digit_run, is_digit, is_letter, value, largest, name_kind, named, figured, numbered}
+use Rattle.words.specs.Words.{dashed, marked, begins, first, behind, There}
 use Rattle.words.specs.Words.Kind.{number, mark}
 use Rattle.words.specs.Words.Reading.{word, fault}
 use Rattle.words.specs.Shown.{shown_token, width_of}
@@ -95,13 +94,3 @@ pub ended : (p : ℕ) (bs : List ℕ) (t : Token) → shown_token t ≡ first p 
 ended p bs t e =
     let h = ends p bs t (subst (There p bs) (sym e) (there p bs)) in
     (h.0 ∙ ap (behind p) e, h.1, h.2)
-
--- the reading from a place, by the parts of the text that the code cuts
-module _ (text : List ℕ) (at n : ℕ) (skipped : n ≡ gap false (take (length text - at) (drop at text))) where
-  pub start_is : at + n ≡ start text at
-  unfolding start
-  start_is = ap (λ m. at + m) (skipped ∙ ap (gap false) (take_rest text at))
-
-  pub scan-is : first (at + n) (take (length text - (at + n)) (drop (at + n) text)) ≡ scan text at
-  unfolding scan
-  scan-is = ap (first (at + n)) (take_rest text (at + n)) ∙ ap (λ p. first p (drop p text)) start_is

@@ -1,7 +1,8 @@
 -- A loop that counts how much of a list belongs to a run: n are passed, and f says how many are still to come. Assumes nothing.
 use Rattle.std.proofs.Common.{◌≡◌, ℕ, ◌+◌, ◌-◌, ◌*◌, ◌<◌, ◌≤◌, Bool, true, false, not, eqb, List, [], ◌∷◌, length, get_or, drop, fold, sym, refl, ap, ◌∙◌, add-zero, arith, get_or-drop}
-use Rattle.std.proofs.lemmas.List.{at_drop_more, at_drop_all}
-use Rattle.words.specs.Words.{gap, skips}
+use Rattle.std.proofs.lemmas.List.{at_drop_more}
+use Rattle.std.proofs.lemmas.Bool.{cond-true, cond-false}
+use Rattle.words.specs.Words.{gap, skips, goes, name_run}
 use Rattle.words.specs.Classes.{class_of}
 use Rattle.words.specs.declared.classes.Class.{Class}
 use Rattle.words.specs.declared.classes.Class.TheVariants.{None as Neither, Blank, Percent, Letter, Digit, Dash, Query, Mark as Sign}
@@ -16,11 +17,7 @@ module _ (f : List ℕ → ℕ) (xs : List ℕ) (n m : ℕ) (sofar : n + f (drop
       → (n + 1) + g (drop (n + 1) xs) ≡ m
   more g h e = omega (arith, at_drop_more f xs n 0 h)
 
-  -- the run takes all
-  pub all : f [] ≡ 0 → n ≤ length xs → length xs ≤ n → length xs ≡ m
-  all e h k = omega (arith, at_drop_all f xs n k)
-
-pub no-skip : (k : Class) (m n : ℕ) → (k ≡ Blank → ⊥) → (k ≡ Percent → ⊥) → skips k m n ≡ 0
+no-skip : (k : Class) (m n : ℕ) → (k ≡ Blank → ⊥) → (k ≡ Percent → ⊥) → skips k m n ≡ 0
 no-skip Blank m n p q = absurd (p refl)
 no-skip Percent m n p q = absurd (q refl)
 no-skip Letter m n p q = refl
@@ -51,9 +48,16 @@ module _ (t u : Bool) (b : ℕ) (bs : List ℕ) where
   pub at-word : (c : Class) → t ≡ false → c ≡ class_of b → (c ≡ Blank → ⊥) → (c ≡ Percent → ⊥) → gap t (b ∷ bs) ≡ 0
   at-word c e k p q = ap (λ s. gap s (b ∷ bs)) e ∙ ap (λ c. skips c (1 + gap false bs) (1 + gap true bs)) (sym k) ∙ no-skip c _ _ p q
 
-pub at-end : (t : Bool) → gap t [] ≡ 0
-at-end true = refl
-at-end false = refl
-
 pub head-drop : (xs : List ℕ) (n : ℕ) → get_or (drop n xs) 0 0 ≡ get_or xs n 0
 head-drop xs n = get_or-drop n xs 0 0 ∙ ap (λ i. get_or xs i 0) (add-zero n)
+
+-- a byte goes on with a name or not by the one behind it
+module _ (xs : List ℕ) (n b next : ℕ) (behind : next ≡ get_or xs (n + 1) 0) where
+  goes-is : goes (class_of b) (drop (n + 1) xs) ≡ goes (class_of b) (next ∷ [])
+  goes-is = ap (λ z. goes (class_of b) (z ∷ [])) (head-drop xs (n + 1) ∙ sym behind)
+
+  pub name-stops : false ≡ goes (class_of b) (next ∷ []) → name_run (b ∷ drop (n + 1) xs) ≡ 0
+  name-stops e = cond-false _ _ _ (goes-is ∙ sym e)
+
+  pub name-more : true ≡ goes (class_of b) (next ∷ []) → name_run (b ∷ drop (n + 1) xs) ≡ 1 + name_run (drop (n + 1) xs)
+  name-more e = cond-true _ _ _ (goes-is ∙ sym e)

@@ -2,7 +2,7 @@ ghost use Rattle.std.specs.Prelude.{◌≡◌, true};
 ghost use Rattle.words.specs.Classes.{class_of, keeps_rule};
 
 // What a byte may begin or go on with.
-#[derive(Clone, Copy)]
+#[derive(Clone, Copy, Debug, PartialEq, Eq)]
 pub enum Class {
     None,
     Blank,
@@ -60,5 +60,6 @@ fn classes() -> &'static [[Class; 16]; 16]
 pub(crate) fn class_of(b: u8) -> Class
     ensures { result ≡ class_of b }
 {
-    classes()[b as usize / 16][b as usize % 16]
+    let b = usize::from(b);
+    classes()[b / 16][b % 16]
 }

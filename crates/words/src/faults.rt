@@ -5,7 +5,7 @@ ghost use Rattle.words.specs.Shown.{number_of, place_of, Measured};
 pub const LONGEST: usize = 32_768;
 
 // Why a text is refused, and where.
-#[derive(Clone, Copy)]
+#[derive(Clone, Copy, Debug, PartialEq, Eq)]
 pub enum Fault {
     TooLong,
     Stray(usize),

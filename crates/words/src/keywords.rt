@@ -1,7 +1,7 @@
 ghost use Rattle.std.specs.Prelude.{◌≡◌};
-ghost use Rattle.words.specs.Spelling.{keyword_of, spelled};
+ghost use Rattle.words.specs.Spelling.{keyword_of};
 
-#[derive(Clone, Copy)]
+#[derive(Clone, Copy, Debug, PartialEq, Eq)]
 pub enum Keyword {
     Module,
     Interface,
@@ -26,69 +26,32 @@ pub enum Keyword {
     Less,
 }
 
-// All keywords.
-const KEYWORDS: &[Keyword; 21] = &[
-    Keyword::Module,
-    Keyword::Interface,
-    Keyword::Body,
-    Keyword::Opaque,
-    Keyword::Transparent,
-    Keyword::Type,
-    Keyword::Int,
-    Keyword::Bool,
-    Keyword::From,
-    Keyword::Take,
-    Keyword::True,
-    Keyword::False,
-    Keyword::IsZero,
-    Keyword::Proc,
-    Keyword::Let,
-    Keyword::In,
-    Keyword::If,
-    Keyword::Then,
-    Keyword::Else,
-    Keyword::Letrec,
-    Keyword::Less,
-];
-
-// How a keyword is spelled.
-pub(crate) fn spelling(k: Keyword) -> &'static [u8]
-    ensures { result.now ≡ spelled k }
-{
-    match k {
-        Keyword::Module => b"module",
-        Keyword::Interface => b"interface",
-        Keyword::Body => b"body",
-        Keyword::Opaque => b"opaque",
-        Keyword::Transparent => b"transparent",
-        Keyword::Type => b"type",
-        Keyword::Int => b"int",
-        Keyword::Bool => b"bool",
-        Keyword::From => b"from",
-        Keyword::Take => b"take",
-        Keyword::True => b"true",
-        Keyword::False => b"false",
-        Keyword::IsZero => b"zero?",
-        Keyword::Proc => b"proc",
-        Keyword::Let => b"let",
-        Keyword::In => b"in",
-        Keyword::If => b"if",
-        Keyword::Then => b"then",
-        Keyword::Else => b"else",
-        Keyword::Letrec => b"letrec",
-        Keyword::Less => b"less?",
-    }
-}
-
 // Which keyword a name is.
 pub(crate) fn keyword_of(name: &[u8]) -> Option<Keyword>
     ensures { result ≡ keyword_of name.now }
 {
-    for i in 0..21 {
-        let k = KEYWORDS[i];
-        if name == spelling(k) {
-            return Some(k);
-        }
+    match name {
+        b"module" => Some(Keyword::Module),
+        b"interface" => Some(Keyword::Interface),
+        b"body" => Some(Keyword::Body),
+        b"opaque" => Some(Keyword::Opaque),
+        b"transparent" => Some(Keyword::Transparent),
+        b"type" => Some(Keyword::Type),
+        b"int" => Some(Keyword::Int),
+        b"bool" => Some(Keyword::Bool),
+        b"from" => Some(Keyword::From),
+        b"take" => Some(Keyword::Take),
+        b"true" => Some(Keyword::True),
+        b"false" => Some(Keyword::False),
+        b"zero?" => Some(Keyword::IsZero),
+        b"proc" => Some(Keyword::Proc),
+        b"let" => Some(Keyword::Let),
+        b"in" => Some(Keyword::In),
+        b"if" => Some(Keyword::If),
+        b"then" => Some(Keyword::Then),
+        b"else" => Some(Keyword::Else),
+        b"letrec" => Some(Keyword::Letrec),
+        b"less?" => Some(Keyword::Less),
+        _ => None,
     }
-    None
 }

@@ -2,16 +2,16 @@ ghost use Rattle.std.specs.Prelude.{◌≡◌};
 ghost use Rattle.words.specs.Words.{size_within, figure_within};
 
 // A number is at most so large in size.
-const LARGEST: u32 = 2_000_000_000;
+const LARGEST: u64 = 2_000_000_000;
 
 // The number that digits stand for, if it is at most 2,000,000,000.
 pub(crate) fn magnitude(digits: &[u8]) -> Option<u32>
     ensures { result ≡ size_within digits.now }
 {
     let mut size: u64 = 0;
-    for digit in digits {
+    for &digit in digits {
         size = size * 10 + u64::from(digit.saturating_sub(b'0'));
-        if size > u64::from(LARGEST) {
+        if size > LARGEST {
             return None;
         }
     }

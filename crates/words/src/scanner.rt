@@ -1,7 +1,7 @@
-ghost use Rattle.std.specs.Prelude.{◌≡◌, ◌+◌, ◌^◌, ◌<◌, ◌≤◌, false, length, take, drop, slice_index};
+ghost use Rattle.std.specs.Prelude.{◌≡◌, ◌+◌, ◌<◌, ◌≤◌, [], ◌∷◌, false, length, take, drop, slice_index};
 ghost use Rattle.words.specs.Classes.{class_of};
 ghost use Rattle.words.specs.Spelling.{mark_of};
-ghost use Rattle.words.specs.Words.{gap, goes, name_run, digit_run, is_digit, is_letter, named};
+ghost use Rattle.words.specs.Words.{gap, goes, name_run, digit_run, named};
 ghost use Rattle.words.specs.Words.{numbered, dashed, marked, first, scan, next_place, Small};
 ghost use Rattle.words.specs.Shown.{shown, shown_word, Moves, Part};
 ghost use Rattle.words.specs.Laws.{Laws};
@@ -12,13 +12,13 @@ use crate::faults::Fault;
 use crate::keywords::keyword_of;
 use crate::marks::{Mark, mark_of};
 use crate::numbers::magnitude;
-use crate::tokens::{Token, Word, width};
+use crate::tokens::{Token, Word};
 
 // The byte at `i`, and 0 past the end.
 fn byte_at(rest: &[u8], i: usize) -> u8
     ensures { result ≡ slice_index rest.now i }
 {
-    if i < rest.len() { rest[i] } else { 0 }
+    rest.get(i).copied().unwrap_or(0)
 }
 
 // How many bytes of `rest` stand before its first word: blanks and comments.
@@ -27,29 +27,24 @@ fn gap_len(rest: &[u8]) -> usize
     ensures within { result ≤ length rest.now }
 {
     let mut comment = false;
-    for n in 0..rest.len() {
-        let b = rest[n];
-        if comment {
-            comment = b != b'\n';
-        } else {
-            match class_of(b) {
-                Class::Blank => {}
-                Class::Percent => comment = true,
-                _ => return n,
-            }
+    for (n, &b) in rest.iter().enumerate() {
+        match class_of(b) {
+            _ if comment => comment = b != b'\n',
+            Class::Blank => {}
+            Class::Percent => comment = true,
+            _ => return n,
         }
     }
     rest.len()
 }
 
-// Whether the byte at `n` goes on with a name: a dash directly before `>` does not.
-fn goes_on(rest: &[u8], n: usize) -> bool
-    requires { n < length rest.now }
-    ensures { result ≡ goes (class_of (slice_index rest.now n)) (drop (n + 1) rest.now) }
+// Whether a byte goes on with a name, where `next` stands behind it: a dash directly before `>` does not.
+fn goes_on(b: u8, next: u8) -> bool
+    ensures { result ≡ goes (class_of b) (next ∷ []) }
 {
-    match class_of(rest[n]) {
+    match class_of(b) {
         Class::Letter | Class::Digit | Class::Query => true,
-        Class::Dash => byte_at(rest, n + 1) != b'>',
+        Class::Dash => next != b'>',
         _ => false,
     }
 }
@@ -59,24 +54,12 @@ fn name_len(rest: &[u8]) -> usize
     ensures value { result ≡ name_run rest.now }
     ensures within { result ≤ length rest.now }
 {
-    for n in 0..rest.len() {
-        if !goes_on(rest, n) {
+    for (n, &b) in rest.iter().enumerate() {
+        if !goes_on(b, byte_at(rest, n + 1)) {
             return n;
         }
     }
     rest.len()
-}
-
-fn is_digit(b: u8) -> bool
-    ensures { result ≡ is_digit (class_of b) }
-{
-    matches!(class_of(b), Class::Digit)
-}
-
-fn is_letter(b: u8) -> bool
-    ensures { result ≡ is_letter (class_of b) }
-{
-    matches!(class_of(b), Class::Letter)
 }
 
 // How many digits `rest` begins with.
@@ -84,89 +67,9 @@ fn digits_len(rest: &[u8]) -> usize
     ensures value { result ≡ digit_run rest.now }
     ensures within { result ≤ length rest.now }
 {
-    for n in 0..rest.len() {
-        if !is_digit(rest[n]) {
-            return n;
-        }
-    }
-    rest.len()
-}
-
-// The name or keyword that `rest` begins with.
-fn name_word<'a>(rest: &'a [u8], place: usize) -> Result<Token<'a>, Fault>
-    ensures { shown_word result ≡ named place (take (name_run rest.now) rest.now) }
-{
-    let n = name_len(rest);
-    if n > 16 {
-        return Err(Fault::LongName(place));
-    }
-    let text = &rest[..n];
-    match keyword_of(text) {
-        Some(k) => Ok(Token::Key(k, Word { text, place })),
-        None => Ok(Token::Name(Word { text, place })),
-    }
-}
-
-// The number that `rest` begins with, its sign taking `sign` bytes.
-fn number_word<'a>(rest: &'a [u8], sign: usize, place: usize) -> Result<Token<'a>, Fault>
-    requires { (sign ≤ length rest.now) × (place + length rest.now < 2 ^ 64) }
-    ensures { shown_word result ≡ numbered place sign rest.now }
-{
-    let n = digits_len(&rest[sign..]);
-    let end = sign + n;
-    if is_letter(byte_at(rest, end)) {
-        return Err(Fault::Stray(place + end));
-    }
-    match magnitude(&rest[sign..end]) {
-        Some(_) => Ok(Token::Number(Word {
-            text: &rest[..end],
-            place,
-        })),
-        None => Err(Fault::LargeNumber(place)),
-    }
-}
-
-// The word that begins with a dash: a number, an arrow or a minus.
-fn dash_word<'a>(rest: &'a [u8], place: usize) -> Result<Token<'a>, Fault>
-    requires { (0 < length rest.now) × (place + length rest.now < 2 ^ 64) }
-    ensures { shown_word result ≡ dashed place rest.now }
-{
-    let next = byte_at(rest, 1);
-    if is_digit(next) {
-        return number_word(rest, 1, place);
-    }
-    match char::from(next) {
-        '>' => Ok(Token::Sign(Mark::Arrow, place)),
-        _ => Ok(Token::Sign(Mark::Minus, place)),
-    }
-}
-
-// The word that stands first in `rest`, at `place` of the text.
-fn first_word<'a>(rest: &'a [u8], place: usize) -> Result<Option<Token<'a>>, Fault>
-    requires { place + length rest.now < 2 ^ 64 }
-    ensures { shown result ≡ first place rest.now }
-{
-    if rest.is_empty() {
-        return Ok(None);
-    }
-    let token = match class_of(rest[0]) {
-        Class::Letter => name_word(rest, place)?,
-        Class::Digit => number_word(rest, 0, place)?,
-        Class::Dash => dash_word(rest, place)?,
-        Class::Mark => sign_word(rest[0], place)?,
-        _ => return Err(Fault::Stray(place)),
-    };
-    Ok(Some(token))
-}
-
-// The mark of one byte at `place`.
-fn sign_word<'a>(b: u8, place: usize) -> Result<Token<'a>, Fault>
-    ensures { shown_word result ≡ marked place (mark_of b) }
-{
-    match mark_of(b) {
-        Some(m) => Ok(Token::Sign(m, place)),
-        None => Err(Fault::Stray(place)),
-    }
+    rest.iter()
+        .take_while(|&&b| class_of(b) == Class::Digit)
+        .count()
 }
 
 // A reader of words: the text, and where it stands in it.
@@ -197,13 +100,96 @@ impl<'a> Cursor<'a> {
         ensures small { Small (shown result) }
         ensures part { Part self.old.text.now self.old.at result }
     {
-        let text = self.text;
-        let place = self.at + gap_len(&text[self.at..]);
-        self.at = place;
-        let token = first_word(&text[place..], place)?;
+        self.at += gap_len(self.rest());
+        let token = self.word()?;
         if let Some(t) = token {
-            self.at = place + width(t);
+            self.at += t.width();
         }
         Ok(token)
+    }
+
+    // The text from here on.
+    fn rest(&self) -> &'a [u8]
+        ensures { result.now ≡ drop self.now.at self.now.text.now }
+    {
+        &self.text[self.at..]
+    }
+
+    // The word that begins here, or none at the text's end.
+    fn word(&self) -> Result<Option<Token<'a>>, Fault>
+        ensures { shown result ≡ first self.now.at (drop self.now.at self.now.text.now) }
+    {
+        let &[b, ..] = self.rest() else {
+            return Ok(None);
+        };
+        let token = match class_of(b) {
+            Class::Letter => self.name()?,
+            Class::Digit => self.number(0)?,
+            Class::Dash => self.dash()?,
+            Class::Mark => self.mark(b)?,
+            _ => return Err(Fault::Stray(self.at)),
+        };
+        Ok(Some(token))
+    }
+
+    // The name or keyword that begins here.
+    fn name(&self) -> Result<Token<'a>, Fault>
+        ensures { let rest = drop self.now.at self.now.text.now in
+            shown_word result ≡ named self.now.at (take (name_run rest) rest) }
+    {
+        let rest = self.rest();
+        let n = name_len(rest);
+        if n > 16 {
+            return Err(Fault::LongName(self.at));
+        }
+        let word = Word {
+            text: &rest[..n],
+            place: self.at,
+        };
+        match keyword_of(word.text) {
+            Some(k) => Ok(Token::Key(k, word)),
+            None => Ok(Token::Name(word)),
+        }
+    }
+
+    // The number that begins here, its sign taking `sign` bytes.
+    fn number(&self, sign: usize) -> Result<Token<'a>, Fault>
+        requires { sign ≤ length (drop self.now.at self.now.text.now) }
+        ensures { shown_word result ≡ numbered self.now.at sign (drop self.now.at self.now.text.now) }
+    {
+        let rest = self.rest();
+        let end = sign + digits_len(&rest[sign..]);
+        if class_of(byte_at(rest, end)) == Class::Letter {
+            return Err(Fault::Stray(self.at + end));
+        }
+        magnitude(&rest[sign..end]).ok_or(Fault::LargeNumber(self.at))?;
+        Ok(Token::Number(Word {
+            text: &rest[..end],
+            place: self.at,
+        }))
+    }
+
+    // The word that begins here with a dash: a number, an arrow or a minus.
+    fn dash(&self) -> Result<Token<'a>, Fault>
+        requires { 0 < length (drop self.now.at self.now.text.now) }
+        ensures { shown_word result ≡ dashed self.now.at (drop self.now.at self.now.text.now) }
+    {
+        let next = byte_at(self.rest(), 1);
+        if class_of(next) == Class::Digit {
+            return self.number(1);
+        }
+        let mark = match char::from(next) {
+            '>' => Mark::Arrow,
+            _ => Mark::Minus,
+        };
+        Ok(Token::Sign(mark, self.at))
+    }
+
+    // The mark of the one byte that stands here.
+    fn mark(&self, b: u8) -> Result<Token<'a>, Fault>
+        ensures { shown_word result ≡ marked self.now.at (mark_of b) }
+    {
+        let mark = mark_of(b).ok_or(Fault::Stray(self.at))?;
+        Ok(Token::Sign(mark, self.at))
     }
 }

@@ -11,7 +11,7 @@ pub fn tally(text: &[u8]) -> Result<usize, Fault>
     measured(text)?;
     let mut cursor = Cursor::over(text);
     let mut count = 0;
-    while let Some(_) = cursor.next()? {
+    while cursor.next()?.is_some() {
         count += 1;
     }
     Ok(count)

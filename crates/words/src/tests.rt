@@ -13,10 +13,10 @@ fn name(cursor: &mut Cursor) -> Option<(usize, usize)> {
     }
 }
 
-fn is_mark(cursor: &mut Cursor, wanted: Mark) -> bool {
+fn mark(cursor: &mut Cursor) -> Option<Mark> {
     match cursor.next() {
-        Ok(Some(Token::Sign(mark, _))) => mark == wanted,
-        _ => false,
+        Ok(Some(Token::Sign(mark, _))) => Some(mark),
+        _ => None,
     }
 }
 
@@ -27,19 +27,16 @@ fn number(cursor: &mut Cursor) -> Option<i32> {
     }
 }
 
-// The number and the place of a text's first fault, and 0 where there is none.
-fn fault(text: &[u8]) -> (usize, usize) {
-    match tally(text) {
-        Ok(_) => (0, 0),
-        Err(fault) => (fault.number(), fault.place()),
-    }
+// The number and the place of a text's first fault.
+fn fault(text: &[u8]) -> Option<(usize, usize)> {
+    tally(text).err().map(|f| (f.number(), f.place()))
 }
 
 #[test]
 fn a_dash_before_an_arrow_ends_a_name(rt: HostRuntime) {
     let mut cursor = Cursor::over(b"a-b->c-");
     assert_eq!(rt; name(&mut cursor), Some((0, 3)));
-    assert!(rt; is_mark(&mut cursor, Mark::Arrow));
+    assert_eq!(rt; mark(&mut cursor), Some(Mark::Arrow));
     assert_eq!(rt; name(&mut cursor), Some((5, 2)));
 }
 
@@ -48,20 +45,20 @@ fn a_dash_before_a_digit_is_a_sign(rt: HostRuntime) {
     let mut cursor = Cursor::over(b"5-3 % three\n--007");
     assert_eq!(rt; number(&mut cursor), Some(5));
     assert_eq!(rt; number(&mut cursor), Some(-3));
-    assert!(rt; is_mark(&mut cursor, Mark::Minus));
+    assert_eq!(rt; mark(&mut cursor), Some(Mark::Minus));
     assert_eq!(rt; number(&mut cursor), Some(-7));
 }
 
 #[test]
 fn faults_have_their_number_and_place(rt: HostRuntime) {
-    assert_eq!(rt; fault(b"let a_b"), (2, 5));
-    assert_eq!(rt; fault(b" 2000000001x"), (2, 11));
-    assert_eq!(rt; fault(b" abcdefghijklmnopq"), (3, 1));
-    assert_eq!(rt; fault(b"-2000000000 -2000000001"), (4, 12));
+    assert_eq!(rt; fault(b"let a_b"), Some((2, 5)));
+    assert_eq!(rt; fault(b" 2000000001x"), Some((2, 11)));
+    assert_eq!(rt; fault(b" abcdefghijklmnopq"), Some((3, 1)));
+    assert_eq!(rt; fault(b"-2000000000 -2000000001"), Some((4, 12)));
 }
 
 #[test]
 fn a_text_is_at_most_so_long(rt: HostRuntime) {
-    assert_eq!(rt; fault(&[b'\n'; 32_768]), (0, 0));
-    assert_eq!(rt; fault(&[b'\n'; 32_769]), (1, 32_768));
+    assert_eq!(rt; fault(&[b'\n'; 32_768]), None);
+    assert_eq!(rt; fault(&[b'\n'; 32_769]), Some((1, 32_768)));
 }

@@ -5,14 +5,14 @@ use crate::keywords::Keyword;
 use crate::marks::Mark;
 
 // A part of the text that spells a word, and its place.
-#[derive(Clone, Copy)]
+#[derive(Clone, Copy, Debug, PartialEq, Eq)]
 pub struct Word<'a> {
     pub text: &'a [u8],
     pub place: usize,
 }
 
 // A word as the cursor hands it on; a mark has its place alone, since its kind tells its bytes.
-#[derive(Clone, Copy)]
+#[derive(Clone, Copy, Debug, PartialEq, Eq)]
 pub enum Token<'a> {
     Name(Word<'a>),
     Number(Word<'a>),
@@ -20,15 +20,15 @@ pub enum Token<'a> {
     Sign(Mark, usize),
 }
 
-// How many bytes of the text a word takes.
-pub(crate) fn width(token: Token) -> usize
-    ensures { result ≡ width_of token.entry }
-{
-    match token {
-        Token::Name(w) => w.text.len(),
-        Token::Number(w) => w.text.len(),
-        Token::Key(_, w) => w.text.len(),
-        Token::Sign(Mark::Arrow, _) => 2,
-        Token::Sign(_, _) => 1,
+impl<'a> Token<'a> {
+    // How many bytes of the text a word takes.
+    pub(crate) fn width(self) -> usize
+        ensures { result ≡ width_of self.entry }
+    {
+        match self {
+            Token::Name(w) | Token::Number(w) | Token::Key(_, w) => w.text.len(),
+            Token::Sign(Mark::Arrow, _) => 2,
+            Token::Sign(_, _) => 1,
+        }
     }
 }

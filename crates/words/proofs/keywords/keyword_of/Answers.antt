@@ -1,20 +1,28 @@
-use Rattle.std.proofs.Common.{sym, ◌∙◌, arith}
-use Rattle.std.proofs.lemmas.Slice.Eq.{slice_eq-Decides}
-use Rattle.std.proofs.lemmas.Bool.{both_ways}
-use Rattle.words.specs.Spelling.{spelled, keywords}
-use Rattle.words.specs.declared.keywords.Keyword.TheVariants.{Module}
-use Rattle.words.proofs.Spells.{hit, miss}
+use Rattle.std.proofs.Common.{ap, sym, codes, rules, arith}
+use Rattle.words.specs.Spelling.{keyword_of}
+use Rattle.words.proofs.Spells.{as-read}
 use Rattle.words.proofs.keywords.keyword_of.Goals as goal
-use Rattle.std.proofs.lemmas.Bool.Decides.{Decides-eqb}
 
-pub returns-then-eq : goal.returns-then-eq
-returns-then-eq c =
-    let d = slice_eq-Decides Decides-eqb _ _ _ c.eq.ensures in
-    sym (hit spelled keywords Module c.loop-i.i c.args.name.now (omega arith) (d.0 c.if-eq.true ∙ c.spelling.ensures))
-    ∙ c.loop-i.invariant
+pub returns-in-false : goal.returns-in-false
+returns-in-false c = ap keyword_of (sym (as-read c.args.name.now (codes "false") (omega arith) (search rules)))
 
-pub loop-i-preserved : goal.loop-i-preserved
-loop-i-preserved c =
-    let d = slice_eq-Decides Decides-eqb _ _ _ c.eq.ensures in
-    sym (miss spelled keywords Module c.loop-i.i c.args.name.now (omega arith)
-    (λ e. both_ways _ c.if-eq.false (d.1 (e ∙ sym c.spelling.ensures)))) ∙ c.loop-i.invariant
+pub returns-in-122 : goal.returns-in-122
+returns-in-122 c = ap keyword_of (sym (as-read c.args.name.now (codes "zero?") (omega arith) (search rules)))
+
+pub returns-in-108 : goal.returns-in-108
+returns-in-108 c = ap keyword_of (sym (as-read c.args.name.now (codes "less?") (omega arith) (search rules)))
+
+pub returns-in-module : goal.returns-in-module
+returns-in-module c = ap keyword_of (sym (as-read c.args.name.now (codes "module") (omega arith) (search rules)))
+
+pub returns-in-opaque : goal.returns-in-opaque
+returns-in-opaque c = ap keyword_of (sym (as-read c.args.name.now (codes "opaque") (omega arith) (search rules)))
+
+pub returns-in-letrec : goal.returns-in-letrec
+returns-in-letrec c = ap keyword_of (sym (as-read c.args.name.now (codes "letrec") (omega arith) (search rules)))
+
+pub returns-in-interface : goal.returns-in-interface
+returns-in-interface c = ap keyword_of (sym (as-read c.args.name.now (codes "interface") (omega arith) (search rules)))
+
+pub returns-in-transparent : goal.returns-in-transparent
+returns-in-transparent c = ap keyword_of (sym (as-read c.args.name.now (codes "transparent") (omega arith) (search rules)))

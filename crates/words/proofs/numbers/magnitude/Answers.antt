@@ -8,8 +8,8 @@ use Rattle.words.proofs.numbers.magnitude.Goals as goal
 abbrev onward : ℕ → List ℕ → ℕ
 onward v bs = fold (λ v b. v * 10 + (b - 48)) v bs
 
-pub returns-then-size-from : goal.returns-then-size-from
-returns-then-size-from c =
+pub returns-then-size-gt-LARGEST : goal.returns-then-size-gt-LARGEST
+returns-then-size-gt-LARGEST c =
     let rest = drop (c.loop-digit.digit-index + 1) c.args.digits.now in
     let digit = get_or c.args.digits.now c.loop-digit.digit-index 0 in
     let large : largest < value c.args.digits.now = omega (

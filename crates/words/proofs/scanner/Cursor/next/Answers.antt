@@ -1,36 +1,26 @@
-use Rattle.std.proofs.Common.{◌≡◌, ◌+◌, ◌-◌, ◌<◌, length, take, drop, Ok, sym, refl, ap, ◌∙◌, subst, arith}
+use Rattle.std.proofs.Common.{◌+◌, ◌<◌, false, Ok, Err, sym, refl, ap, ◌∙◌, subst, arith}
 use Rattle.std.proofs.lemmas.Result.{err_from_is_err_and}
 use Rattle.words.specs.declared.scanner.Cursor.{Cursor}
-use Rattle.words.specs.Words.{first}
-use Rattle.words.specs.Shown.{shown, shown_fault, Moves}
+use Rattle.words.specs.Words.{gap}
+use Rattle.words.specs.Shown.{Moves}
 use Rattle.words.proofs.Answered.{reads, is-small, is-part, moved, at-end, at-fault}
 use Rattle.words.proofs.scanner.Cursor.next.Goals as goal
 use Rattle.words.proofs.scanner.Cursor.next.Goals.{in-Some, in_default}
 
-pub returns-in_err-token : goal.returns-in_err-token
-returns-in_err-token c =
-    let text = c.args.self.now.text.now in
-    let at = c.args.self.now.at in
-    let n = c.gap_len.result in
-    let skipped = c.gap_len.ensures.value in
-    let r = c.from_residual.result in
-    let (f, is, same) = err_from_is_err_and r c.from_residual.ensures.1 in
-    let told : shown r ≡ first (at + n) (take (length text - (at + n)) (drop (at + n) text)) = ap shown is ∙ ap shown_fault same ∙ c.in_err-token.ensures in
-    record {
-      reads = reads text at n skipped r told;
-      small = is-small text at n skipped r told;
-      moves = subst (Moves at (at + n)) (sym is) tt;
-      part = is-part text at n skipped r told;
-      stands = at-fault text at n skipped r told f is;
-      same = refl;
-    }
+pub returns-in_err-token-clause-reads : goal.returns-in_err-token-clause-reads
+returns-in_err-token-clause-reads c =
+    let (f, is, same) = err_from_is_err_and c.from_residual.result c.from_residual.ensures.1 in
+    rw (is, same) (reads _ _ _ (c.gap_len.ensures.value ∙ ap (gap false) c.rest.ensures) (Err c.in_err-token.field-0.0) c.in_err-token.ensures)
+
+pub returns-in_err-token-clause-stands : goal.returns-in_err-token-clause-stands
+returns-in_err-token-clause-stands c =
+    let f = c.in_err-token.field-0.0 in
+    at-fault _ _ _ (c.gap_len.ensures.value ∙ ap (gap false) c.rest.ensures) (Err f) c.in_err-token.ensures f refl
 
 pub invariant_of-self-in-Some : goal.invariant_of-self-in-Some
 invariant_of-self-in-Some c =
-    let text = c.args.self.now.text.now in
-    let at = c.args.self.now.at in
-    let m = moved text at c.gap_len.result c.gap_len.ensures.value (Ok c.in_ok-token.token) c.in_ok-token.ensures
-    c.in-Some.t (ap (λ o. Ok o) c.in-Some.is) in
+    let m = moved c.args.self.now.text.now c.args.self.now.at c.gap_len.result (c.gap_len.ensures.value ∙ ap (gap false) c.rest.ensures)
+    (Ok c.in_ok-token.token) c.in_ok-token.ensures c.in-Some.t (ap (λ o. Ok o) c.in-Some.is) in
     record { within = omega (arith, m.1, c.width.ensures) }
 
 pub returns : goal.returns
@@ -38,7 +28,7 @@ returns c =
     let text = c.args.self.now.text.now in
     let at = c.args.self.now.at in
     let n = c.gap_len.result in
-    let skipped = c.gap_len.ensures.value in
+    let skipped = c.gap_len.ensures.value ∙ ap (gap false) c.rest.ensures in
     let o = c.in_ok-token.token in
     let told = c.in_ok-token.ensures in
     record {
