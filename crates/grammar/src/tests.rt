@@ -1,4 +1,3 @@
-use crate::faults::{fault_number, fault_place};
 use crate::read::{read, sheet};
 use crate::tree::{ExpNode, Node};
 use std::test;
@@ -11,7 +10,7 @@ fn refused(text: &[u8], places: usize, k: u8, at: usize) -> bool {
     }
     match read(text, &mut table[..places]) {
         Ok(_) => false,
-        Err(fault) => fault_number(fault) == k && fault_place(fault) == at,
+        Err(fault) => fault.number() == k && fault.place() == at,
     }
 }
 
