@@ -1,7 +1,7 @@
 ghost use Rattle.std.specs.Prelude.{◌≡◌, ℕ, ◌-◌};
 ghost use Rattle.grammar.specs.Productions.{an_exp};
 ghost use Rattle.grammar.specs.Steps.{Whole};
-ghost use Rattle.grammar.specs.Readers.{Kept, text_of, Gives};
+ghost use Rattle.grammar.specs.Readers.{text_of, Gives};
 ghost use Rattle.grammar.specs.Laying.{part_m, from_m, exp_m, qualified_m, is_zero_m, apply_m, proc_m, bound_m, let_m, if_m, letrec_m, pair_m, binary_m};
 
 use crate::faults::Fault;
@@ -17,8 +17,7 @@ impl Reader<'_, '_> {
     // An expression of at most `levels` levels.
     #[cycle(expressions)]
     pub fn expression(&mut self, levels: u8) -> Result<u16, Fault>
-        ensures kept { Kept self.old self.new }
-        ensures gives { Gives (part_m an_exp levels) result self.old self.new }
+        ensures { Gives (part_m an_exp levels) result self.old self.new }
     {
         let first = self.next()?;
         self.expression_from(first, levels)
@@ -28,8 +27,7 @@ impl Reader<'_, '_> {
     #[cycle(expressions)]
     pub fn expression_from(&mut self, first: Next, levels: u8) -> Result<u16, Fault>
         requires { Whole (text_of self.old) first }
-        ensures kept { Kept self.old self.new }
-        ensures gives { Gives (from_m an_exp first levels) result self.old self.new }
+        ensures { Gives (from_m an_exp first levels) result self.old self.new }
     {
         let at = place_of(first);
         let Some(start) = exp_start(first) else {
@@ -44,8 +42,7 @@ impl Reader<'_, '_> {
     // The rest of an expression behind its first word, which stands at `at`; its parts have at most `levels` levels.
     #[cycle(expressions)]
     fn expression_form(&mut self, start: ExpStart, at: u16, levels: u8) -> Result<u16, Fault>
-        ensures kept { Kept self.old self.new }
-        ensures gives { Gives (exp_m at levels start) result self.old self.new }
+        ensures { Gives (exp_m at levels start) result self.old self.new }
     {
         match start {
             ExpStart::Number(value) => self.place(
@@ -72,8 +69,7 @@ impl Reader<'_, '_> {
     }
 
     fn qualified(&mut self, at: u16) -> Result<u16, Fault>
-        ensures kept { Kept self.old self.new }
-        ensures gives { Gives (qualified_m at) result self.old self.new }
+        ensures { Gives (qualified_m at) result self.old self.new }
     {
         let module = self.name()?;
         self.keyword(Keyword::Take)?;
@@ -83,8 +79,7 @@ impl Reader<'_, '_> {
 
     #[cycle(expressions)]
     fn is_zero(&mut self, at: u16, levels: u8) -> Result<u16, Fault>
-        ensures kept { Kept self.old self.new }
-        ensures gives { Gives (is_zero_m at levels) result self.old self.new }
+        ensures { Gives (is_zero_m at levels) result self.old self.new }
     {
         self.mark(Mark::Open)?;
         let part = self.expression(levels)?;
@@ -94,8 +89,7 @@ impl Reader<'_, '_> {
 
     #[cycle(expressions)]
     fn application(&mut self, at: u16, levels: u8) -> Result<u16, Fault>
-        ensures kept { Kept self.old self.new }
-        ensures gives { Gives (apply_m at levels) result self.old self.new }
+        ensures { Gives (apply_m at levels) result self.old self.new }
     {
         let operator = self.expression(levels)?;
         let operand = self.expression(levels)?;
@@ -112,8 +106,7 @@ impl Reader<'_, '_> {
 
     #[cycle(expressions)]
     fn procedure(&mut self, at: u16, levels: u8) -> Result<u16, Fault>
-        ensures kept { Kept self.old self.new }
-        ensures gives { Gives (proc_m at levels) result self.old self.new }
+        ensures { Gives (proc_m at levels) result self.old self.new }
     {
         let (parameter, of) = self.parameter(levels)?;
         let body = self.expression(levels)?;
@@ -131,8 +124,7 @@ impl Reader<'_, '_> {
     // What is bound, and the expression that it is bound in.
     #[cycle(expressions)]
     fn bound(&mut self, levels: u8) -> Result<(u16, u16), Fault>
-        ensures kept { Kept self.old self.new }
-        ensures gives { Gives (bound_m levels) result self.old self.new }
+        ensures { Gives (bound_m levels) result self.old self.new }
     {
         self.mark(Mark::Equal)?;
         let bound = self.expression(levels)?;
@@ -143,8 +135,7 @@ impl Reader<'_, '_> {
 
     #[cycle(expressions)]
     fn let_in(&mut self, at: u16, levels: u8) -> Result<u16, Fault>
-        ensures kept { Kept self.old self.new }
-        ensures gives { Gives (let_m at levels) result self.old self.new }
+        ensures { Gives (let_m at levels) result self.old self.new }
     {
         let name = self.name()?;
         let (bound, body) = self.bound(levels)?;
@@ -161,8 +152,7 @@ impl Reader<'_, '_> {
 
     #[cycle(expressions)]
     fn conditional(&mut self, at: u16, levels: u8) -> Result<u16, Fault>
-        ensures kept { Kept self.old self.new }
-        ensures gives { Gives (if_m at levels) result self.old self.new }
+        ensures { Gives (if_m at levels) result self.old self.new }
     {
         let test = self.expression(levels)?;
         self.keyword(Keyword::Then)?;
@@ -182,8 +172,7 @@ impl Reader<'_, '_> {
 
     #[cycle(expressions)]
     fn letrec(&mut self, at: u16, levels: u8) -> Result<u16, Fault>
-        ensures kept { Kept self.old self.new }
-        ensures gives { Gives (letrec_m at levels) result self.old self.new }
+        ensures { Gives (letrec_m at levels) result self.old self.new }
     {
         let result = self.ty(levels)?;
         let name = self.name()?;
@@ -206,8 +195,7 @@ impl Reader<'_, '_> {
     // A pair, whose sides have at most `levels` levels.
     #[cycle(expressions)]
     fn pair(&mut self, levels: u8) -> Result<(u16, u16), Fault>
-        ensures kept { Kept self.old self.new }
-        ensures gives { Gives (pair_m levels) result self.old self.new }
+        ensures { Gives (pair_m levels) result self.old self.new }
     {
         self.mark(Mark::Open)?;
         let left = self.expression(levels)?;
@@ -219,8 +207,7 @@ impl Reader<'_, '_> {
 
     #[cycle(expressions)]
     fn binary(&mut self, at: u16, operator: Operator, levels: u8) -> Result<u16, Fault>
-        ensures kept { Kept self.old self.new }
-        ensures gives { Gives (binary_m at operator levels) result self.old self.new }
+        ensures { Gives (binary_m at operator levels) result self.old self.new }
     {
         let (left, right) = self.pair(levels)?;
         self.place(

@@ -1,7 +1,7 @@
 ghost use Rattle.std.specs.Prelude.{◌≡◌};
 ghost use Rattle.grammar.specs.Productions.{a_declaration, a_definition};
 ghost use Rattle.grammar.specs.Steps.{Whole};
-ghost use Rattle.grammar.specs.Readers.{Kept, text_of, Gives};
+ghost use Rattle.grammar.specs.Readers.{text_of, Gives};
 ghost use Rattle.grammar.specs.Laying.{from_m, many_m, declaration_m, opaque_m, transparent_m, declared_m, definition_m, type_is_m, value_is_m};
 ghost use Rattle.grammar.specs.Laying.{interface_m, body_m, module_m};
 
@@ -19,8 +19,7 @@ impl Reader<'_, '_> {
     // A declaration whose first word is `first`.
     fn declaration(&mut self, first: Next) -> Result<u16, Fault>
         requires { Whole (text_of self.old) first }
-        ensures kept { Kept self.old self.new }
-        ensures gives { Gives (from_m a_declaration first 49) result self.old self.new }
+        ensures { Gives (from_m a_declaration first 49) result self.old self.new }
     {
         let at = place_of(first);
         let Some(start) = declaration_start(first) else {
@@ -30,8 +29,7 @@ impl Reader<'_, '_> {
     }
 
     fn declaration_form(&mut self, start: DeclarationStart, at: u16) -> Result<u16, Fault>
-        ensures kept { Kept self.old self.new }
-        ensures gives { Gives (declaration_m at 48 start) result self.old self.new }
+        ensures { Gives (declaration_m at 48 start) result self.old self.new }
     {
         match start {
             DeclarationStart::Opaque => self.opaque_type(at),
@@ -41,16 +39,14 @@ impl Reader<'_, '_> {
     }
 
     fn opaque_type(&mut self, at: u16) -> Result<u16, Fault>
-        ensures kept { Kept self.old self.new }
-        ensures gives { Gives (opaque_m at) result self.old self.new }
+        ensures { Gives (opaque_m at) result self.old self.new }
     {
         let name = self.name()?;
         self.place(Node::Item(Item::Opaque { at, name }), at)
     }
 
     fn transparent_type(&mut self, at: u16) -> Result<u16, Fault>
-        ensures kept { Kept self.old self.new }
-        ensures gives { Gives (transparent_m at 48) result self.old self.new }
+        ensures { Gives (transparent_m at 48) result self.old self.new }
     {
         let name = self.name()?;
         self.mark(Mark::Equal)?;
@@ -59,8 +55,7 @@ impl Reader<'_, '_> {
     }
 
     fn declared(&mut self, name: Span, at: u16) -> Result<u16, Fault>
-        ensures kept { Kept self.old self.new }
-        ensures gives { Gives (declared_m name at 48) result self.old self.new }
+        ensures { Gives (declared_m name at 48) result self.old self.new }
     {
         self.mark(Mark::Colon)?;
         let of = self.ty(48)?;
@@ -70,8 +65,7 @@ impl Reader<'_, '_> {
     // A definition whose first word is `first`.
     fn definition(&mut self, first: Next) -> Result<u16, Fault>
         requires { Whole (text_of self.old) first }
-        ensures kept { Kept self.old self.new }
-        ensures gives { Gives (from_m a_definition first 49) result self.old self.new }
+        ensures { Gives (from_m a_definition first 49) result self.old self.new }
     {
         let at = place_of(first);
         let Some(start) = definition_start(first) else {
@@ -81,8 +75,7 @@ impl Reader<'_, '_> {
     }
 
     fn definition_form(&mut self, start: DefinitionStart, at: u16) -> Result<u16, Fault>
-        ensures kept { Kept self.old self.new }
-        ensures gives { Gives (definition_m at 48 start) result self.old self.new }
+        ensures { Gives (definition_m at 48 start) result self.old self.new }
     {
         match start {
             DefinitionStart::Named => self.type_is(at),
@@ -91,8 +84,7 @@ impl Reader<'_, '_> {
     }
 
     fn type_is(&mut self, at: u16) -> Result<u16, Fault>
-        ensures kept { Kept self.old self.new }
-        ensures gives { Gives (type_is_m at 48) result self.old self.new }
+        ensures { Gives (type_is_m at 48) result self.old self.new }
     {
         let name = self.name()?;
         self.mark(Mark::Equal)?;
@@ -101,8 +93,7 @@ impl Reader<'_, '_> {
     }
 
     fn value_is(&mut self, name: Span, at: u16) -> Result<u16, Fault>
-        ensures kept { Kept self.old self.new }
-        ensures gives { Gives (value_is_m name at 48) result self.old self.new }
+        ensures { Gives (value_is_m name at 48) result self.old self.new }
     {
         self.mark(Mark::Equal)?;
         let is = self.expression(48)?;
@@ -111,8 +102,7 @@ impl Reader<'_, '_> {
 
     // Declarations up to and with a `]`.
     fn declarations(&mut self) -> Result<(), Fault>
-        ensures kept { Kept self.old self.new }
-        ensures gives { Gives (many_m a_declaration) result self.old self.new }
+        ensures { Gives (many_m a_declaration) result self.old self.new }
     {
         loop {
             let first = self.next()?;
@@ -125,8 +115,7 @@ impl Reader<'_, '_> {
 
     // Definitions up to and with a `]`.
     fn definitions(&mut self) -> Result<(), Fault>
-        ensures kept { Kept self.old self.new }
-        ensures gives { Gives (many_m a_definition) result self.old self.new }
+        ensures { Gives (many_m a_definition) result self.old self.new }
     {
         loop {
             let first = self.next()?;
@@ -138,8 +127,7 @@ impl Reader<'_, '_> {
     }
 
     fn interface(&mut self) -> Result<(), Fault>
-        ensures kept { Kept self.old self.new }
-        ensures gives { Gives (interface_m) result self.old self.new }
+        ensures { Gives (interface_m) result self.old self.new }
     {
         self.keyword(Keyword::Interface)?;
         self.mark(Mark::Begin)?;
@@ -147,8 +135,7 @@ impl Reader<'_, '_> {
     }
 
     fn body(&mut self) -> Result<(), Fault>
-        ensures kept { Kept self.old self.new }
-        ensures gives { Gives (body_m) result self.old self.new }
+        ensures { Gives (body_m) result self.old self.new }
     {
         self.keyword(Keyword::Body)?;
         self.mark(Mark::Begin)?;
@@ -157,8 +144,7 @@ impl Reader<'_, '_> {
 
     // A module behind its first word, which stands at `at`.
     pub fn module(&mut self, at: u16) -> Result<u16, Fault>
-        ensures kept { Kept self.old self.new }
-        ensures gives { Gives (module_m at) result self.old self.new }
+        ensures { Gives (module_m at) result self.old self.new }
     {
         let name = self.name()?;
         self.interface()?;

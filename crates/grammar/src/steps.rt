@@ -90,8 +90,7 @@ impl<'t> Reader<'t, '_> {
 
     // Goes past one mark.
     pub fn mark(&mut self, want: Mark) -> Result<(), Fault>
-        ensures kept { Kept self.old self.new }
-        ensures gives { Gives (mark_m want) result self.old self.new }
+        ensures { Gives (mark_m want) result self.old self.new }
     {
         let next = self.next()?;
         if !is_mark(next, want) {
@@ -102,8 +101,7 @@ impl<'t> Reader<'t, '_> {
 
     // Goes past one keyword.
     pub fn keyword(&mut self, want: Keyword) -> Result<(), Fault>
-        ensures kept { Kept self.old self.new }
-        ensures gives { Gives (key_m want) result self.old self.new }
+        ensures { Gives (key_m want) result self.old self.new }
     {
         let next = self.next()?;
         if !is_keyword(next, want) {
@@ -114,8 +112,7 @@ impl<'t> Reader<'t, '_> {
 
     // Goes past one name.
     pub fn name(&mut self) -> Result<Span, Fault>
-        ensures kept { Kept self.old self.new }
-        ensures gives { Gives name_m result self.old self.new }
+        ensures { Gives name_m result self.old self.new }
     {
         let next = self.next()?;
         match next {
@@ -126,8 +123,7 @@ impl<'t> Reader<'t, '_> {
 
     // Puts a node into the next free place; `at` is the place of its part in the text.
     pub fn place(&mut self, node: Node, at: u16) -> Result<u16, Fault>
-        ensures kept { Kept self.old self.new }
-        ensures gives { Gives (place_m node at) result self.old self.new }
+        ensures { Gives (place_m node at) result self.old self.new }
     {
         let used = self.used;
         if used >= self.tree.len() || used >= 65535 {

@@ -1,7 +1,7 @@
 ghost use Rattle.std.specs.Prelude.{◌≡◌, ℕ, ◌-◌};
 ghost use Rattle.grammar.specs.Productions.{a_type};
 ghost use Rattle.grammar.specs.Steps.{Whole};
-ghost use Rattle.grammar.specs.Readers.{Kept, text_of, Gives};
+ghost use Rattle.grammar.specs.Readers.{text_of, Gives};
 ghost use Rattle.grammar.specs.Laying.{part_m, from_m, type_m, arrow_m, qualified_type_m, parameter_m};
 
 use crate::faults::Fault;
@@ -18,8 +18,7 @@ impl Reader<'_, '_> {
     // A type of at most `levels` levels.
     #[cycle(types)]
     pub fn ty(&mut self, levels: u8) -> Result<u16, Fault>
-        ensures kept { Kept self.old self.new }
-        ensures gives { Gives (part_m a_type levels) result self.old self.new }
+        ensures { Gives (part_m a_type levels) result self.old self.new }
     {
         let first = self.next()?;
         self.type_from(first, levels)
@@ -29,8 +28,7 @@ impl Reader<'_, '_> {
     #[cycle(types)]
     fn type_from(&mut self, first: Next, levels: u8) -> Result<u16, Fault>
         requires { Whole (text_of self.old) first }
-        ensures kept { Kept self.old self.new }
-        ensures gives { Gives (from_m a_type first levels) result self.old self.new }
+        ensures { Gives (from_m a_type first levels) result self.old self.new }
     {
         let at = place_of(first);
         let Some(start) = type_start(first) else {
@@ -45,8 +43,7 @@ impl Reader<'_, '_> {
     // The rest of a type behind its first word, which stands at `at`; its parts have at most `levels` levels.
     #[cycle(types)]
     fn type_form(&mut self, start: TypeStart, at: u16, levels: u8) -> Result<u16, Fault>
-        ensures kept { Kept self.old self.new }
-        ensures gives { Gives (type_m at levels start) result self.old self.new }
+        ensures { Gives (type_m at levels start) result self.old self.new }
     {
         match start {
             TypeStart::Int => self.place(Node::Type(TypeNode::Int { at }), at),
@@ -58,8 +55,7 @@ impl Reader<'_, '_> {
     }
 
     fn qualified_type(&mut self, at: u16) -> Result<u16, Fault>
-        ensures kept { Kept self.old self.new }
-        ensures gives { Gives (qualified_type_m at) result self.old self.new }
+        ensures { Gives (qualified_type_m at) result self.old self.new }
     {
         let module = self.name()?;
         self.keyword(Keyword::Take)?;
@@ -69,8 +65,7 @@ impl Reader<'_, '_> {
 
     #[cycle(types)]
     fn arrow(&mut self, at: u16, levels: u8) -> Result<u16, Fault>
-        ensures kept { Kept self.old self.new }
-        ensures gives { Gives (arrow_m at levels) result self.old self.new }
+        ensures { Gives (arrow_m at levels) result self.old self.new }
     {
         let from = self.ty(levels)?;
         self.mark(Mark::Arrow)?;
@@ -81,8 +76,7 @@ impl Reader<'_, '_> {
 
     // A parameter with its type, in parentheses.
     pub fn parameter(&mut self, levels: u8) -> Result<(Span, u16), Fault>
-        ensures kept { Kept self.old self.new }
-        ensures gives { Gives (parameter_m levels) result self.old self.new }
+        ensures { Gives (parameter_m levels) result self.old self.new }
     {
         self.mark(Mark::Open)?;
         let name = self.name()?;
