@@ -8,8 +8,7 @@ use crate::faults::Fault;
 use crate::forms::ExpStart;
 use crate::next::Next;
 use crate::reader::Reader;
-use crate::starts::exp_start;
-use crate::steps::place_of;
+use crate::starts::begun;
 use crate::tree::{ExpNode, Node, Operator};
 use words::{Keyword, Mark};
 
@@ -29,14 +28,8 @@ impl Reader<'_, '_> {
         requires { Whole (text_of self.old) first }
         ensures { Gives (from_m an_exp first levels) result self.old self.new }
     {
-        let at = place_of(first);
-        let Some(start) = exp_start(first) else {
-            return Err(Fault::Unexpected(at as usize));
-        };
-        if levels == 0 {
-            return Err(Fault::TooDeep(at as usize));
-        }
-        self.expression_form(start, at, levels - 1)
+        let start = begun(first, levels)?;
+        self.expression_form(start, first.place(), levels - 1)
     }
 
     // The rest of an expression behind its first word, which stands at `at`; its parts have at most `levels` levels.
@@ -71,9 +64,7 @@ impl Reader<'_, '_> {
     fn qualified(&mut self, at: u16) -> Result<u16, Fault>
         ensures { Gives (qualified_m at) result self.old self.new }
     {
-        let module = self.name()?;
-        self.keyword(Keyword::Take)?;
-        let name = self.name()?;
+        let (module, name) = self.taken()?;
         self.place(Node::Expression(ExpNode::From { at, module, name }), at)
     }
 
@@ -81,9 +72,9 @@ impl Reader<'_, '_> {
     fn is_zero(&mut self, at: u16, levels: u8) -> Result<u16, Fault>
         ensures { Gives (is_zero_m at levels) result self.old self.new }
     {
-        self.mark(Mark::Open)?;
+        self.expect(Mark::Open)?;
         let part = self.expression(levels)?;
-        self.mark(Mark::Shut)?;
+        self.expect(Mark::Shut)?;
         self.place(Node::Expression(ExpNode::IsZero { at, part }), at)
     }
 
@@ -93,7 +84,7 @@ impl Reader<'_, '_> {
     {
         let operator = self.expression(levels)?;
         let operand = self.expression(levels)?;
-        self.mark(Mark::Shut)?;
+        self.expect(Mark::Shut)?;
         self.place(
             Node::Expression(ExpNode::Apply {
                 at,
@@ -126,9 +117,9 @@ impl Reader<'_, '_> {
     fn bound(&mut self, levels: u8) -> Result<(u16, u16), Fault>
         ensures { Gives (bound_m levels) result self.old self.new }
     {
-        self.mark(Mark::Equal)?;
+        self.expect(Mark::Equal)?;
         let bound = self.expression(levels)?;
-        self.keyword(Keyword::In)?;
+        self.expect(Keyword::In)?;
         let body = self.expression(levels)?;
         Ok((bound, body))
     }
@@ -155,9 +146,9 @@ impl Reader<'_, '_> {
         ensures { Gives (if_m at levels) result self.old self.new }
     {
         let test = self.expression(levels)?;
-        self.keyword(Keyword::Then)?;
+        self.expect(Keyword::Then)?;
         let consequent = self.expression(levels)?;
-        self.keyword(Keyword::Else)?;
+        self.expect(Keyword::Else)?;
         let alternative = self.expression(levels)?;
         self.place(
             Node::Expression(ExpNode::If {
@@ -197,11 +188,11 @@ impl Reader<'_, '_> {
     fn pair(&mut self, levels: u8) -> Result<(u16, u16), Fault>
         ensures { Gives (pair_m levels) result self.old self.new }
     {
-        self.mark(Mark::Open)?;
+        self.expect(Mark::Open)?;
         let left = self.expression(levels)?;
-        self.mark(Mark::Comma)?;
+        self.expect(Mark::Comma)?;
         let right = self.expression(levels)?;
-        self.mark(Mark::Shut)?;
+        self.expect(Mark::Shut)?;
         Ok((left, right))
     }
 

@@ -3,10 +3,10 @@ ghost use Rattle.grammar.specs.Steps.{Whole};
 ghost use Rattle.grammar.specs.Readers.{text_of, Gives};
 ghost use Rattle.grammar.specs.Laying.{end_m, closing_m, sheet_m};
 
+use crate::expected::Expected;
 use crate::faults::Fault;
 use crate::next::Next;
 use crate::reader::Reader;
-use crate::steps::{is_keyword, place_of};
 use words::Keyword;
 
 impl Reader<'_, '_> {
@@ -16,8 +16,8 @@ impl Reader<'_, '_> {
     {
         let next = self.next()?;
         match next {
-            Next::End { at: _ } => Ok(()),
-            _ => Err(Fault::Unexpected(place_of(next) as usize)),
+            Next::End { .. } => Ok(()),
+            _ => Err(next.unexpected()),
         }
     }
 
@@ -35,18 +35,17 @@ impl Reader<'_, '_> {
     pub fn whole_sheet(&mut self) -> Result<u16, Fault>
         ensures { Gives (sheet_m 32) result self.old self.new }
     {
-        let mut modules: u8 = 0;
-        loop {
+        for _ in 0..32_u8 {
             let first = self.next()?;
-            if !is_keyword(first, Keyword::Module) {
+            if !Keyword::Module.is(first) {
                 return self.closing(first);
             }
-            let at = place_of(first);
-            if modules == 32 {
-                return Err(Fault::TooManyModules(at as usize));
-            }
-            self.module(at)?;
-            modules += 1;
+            self.module(first.place())?;
         }
+        let first = self.next()?;
+        if Keyword::Module.is(first) {
+            return Err(Fault::TooManyModules(usize::from(first.place())));
+        }
+        self.closing(first)
     }
 }

@@ -2,14 +2,13 @@ ghost use Rattle.std.specs.Prelude.{◌≡◌, ℕ, ◌-◌};
 ghost use Rattle.grammar.specs.Productions.{a_type};
 ghost use Rattle.grammar.specs.Steps.{Whole};
 ghost use Rattle.grammar.specs.Readers.{text_of, Gives};
-ghost use Rattle.grammar.specs.Laying.{part_m, from_m, type_m, arrow_m, qualified_type_m, parameter_m};
+ghost use Rattle.grammar.specs.Laying.{part_m, from_m, type_m, arrow_m, taken_m, qualified_type_m, parameter_m};
 
 use crate::faults::Fault;
 use crate::forms::TypeStart;
 use crate::next::Next;
 use crate::reader::Reader;
-use crate::starts::type_start;
-use crate::steps::place_of;
+use crate::starts::begun;
 use crate::tree::{Node, TypeNode};
 use language::spans::Span;
 use words::{Keyword, Mark};
@@ -30,14 +29,8 @@ impl Reader<'_, '_> {
         requires { Whole (text_of self.old) first }
         ensures { Gives (from_m a_type first levels) result self.old self.new }
     {
-        let at = place_of(first);
-        let Some(start) = type_start(first) else {
-            return Err(Fault::Unexpected(at as usize));
-        };
-        if levels == 0 {
-            return Err(Fault::TooDeep(at as usize));
-        }
-        self.type_form(start, at, levels - 1)
+        let start = begun(first, levels)?;
+        self.type_form(start, first.place(), levels - 1)
     }
 
     // The rest of a type behind its first word, which stands at `at`; its parts have at most `levels` levels.
@@ -54,12 +47,20 @@ impl Reader<'_, '_> {
         }
     }
 
+    // A module's name and the name taken from it.
+    pub fn taken(&mut self) -> Result<(Span, Span), Fault>
+        ensures { Gives (taken_m) result self.old self.new }
+    {
+        let module = self.name()?;
+        self.expect(Keyword::Take)?;
+        let name = self.name()?;
+        Ok((module, name))
+    }
+
     fn qualified_type(&mut self, at: u16) -> Result<u16, Fault>
         ensures { Gives (qualified_type_m at) result self.old self.new }
     {
-        let module = self.name()?;
-        self.keyword(Keyword::Take)?;
-        let name = self.name()?;
+        let (module, name) = self.taken()?;
         self.place(Node::Type(TypeNode::From { at, module, name }), at)
     }
 
@@ -68,9 +69,9 @@ impl Reader<'_, '_> {
         ensures { Gives (arrow_m at levels) result self.old self.new }
     {
         let from = self.ty(levels)?;
-        self.mark(Mark::Arrow)?;
+        self.expect(Mark::Arrow)?;
         let to = self.ty(levels)?;
-        self.mark(Mark::Shut)?;
+        self.expect(Mark::Shut)?;
         self.place(Node::Type(TypeNode::Arrow { at, from, to }), at)
     }
 
@@ -78,11 +79,11 @@ impl Reader<'_, '_> {
     pub fn parameter(&mut self, levels: u8) -> Result<(Span, u16), Fault>
         ensures { Gives (parameter_m levels) result self.old self.new }
     {
-        self.mark(Mark::Open)?;
+        self.expect(Mark::Open)?;
         let name = self.name()?;
-        self.mark(Mark::Colon)?;
+        self.expect(Mark::Colon)?;
         let of = self.ty(levels)?;
-        self.mark(Mark::Shut)?;
+        self.expect(Mark::Shut)?;
         Ok((name, of))
     }
 }
