@@ -16,7 +16,7 @@ pub enum Fault {
 }
 
 // The layer that refuses.
-#[derive(Clone, Copy)]
+#[derive(Clone, Copy, Debug, PartialEq, Eq)]
 pub enum Layer {
     Words,
     Grammar,

@@ -1,4 +1,4 @@
-use Rattle.std.proofs.Common.{◌-◌, Some, sym, refl, ap, ◌∙◌, subst, rules}
+use Rattle.std.proofs.Common.{◌-◌, Some, sym, ap, ◌∙◌, subst, rules}
 use Rattle.std.proofs.lemmas.Result.{err_from_is_err_and}
 use Rattle.grammar.specs.Productions.{a_type}
 use Rattle.grammar.specs.Laying.{from_m, type_m}
