@@ -1,5 +1,6 @@
 -- What reading a text into a lent table answers and leaves.
-use Rattle.std.proofs.Common.{◌≡◌, ℕ, ◌+◌, ◌-◌, ◌<◌, ◌≤◌, min, List, [], ◌++◌, length, take, drop, replicate, Some, Ok, Err, Result, sym, refl, ap, ◌∙◌, subst, arith, length-append}
+use Rattle.std.specs.Result.{is_err}
+use Rattle.std.proofs.Common.{◌≡◌, ℕ, true, false, ◌+◌, ◌-◌, ◌<◌, ◌≤◌, min, List, [], ◌++◌, length, take, drop, replicate, Some, Ok, Err, Result, sym, refl, ap, ◌∙◌, subst, arith, length-append}
 use lib.ListN.{length-replicate}
 use lib.Seq.{take-append_seam, drop-append-le}
 use Rattle.std.proofs.lemmas.Bool.{le-leb, lt-leb}
@@ -95,7 +96,7 @@ module _ (text : List ℕ) (ns ms : List Node) where
       let i : limit_of bs ≡ limit_of ns = ap (λ z. min (length z) 65535) b ∙ ap (λ k. min k 65535) (length-blanked ns) in
       subst (λ k. Filled (reading k text) r (blanked ns) ms) i (subst (λ z. Filled (reading (limit_of bs) text) r z ms) b h)
 
-  pub answered-ok : (close : ℕ) (bs : List Node) → bs ≡ blanked ns → Filled (reading (limit_of bs) text) (Ok close) bs ms
+  answered-ok : (close : ℕ) (bs : List Node) → bs ≡ blanked ns → Filled (reading (limit_of bs) text) (Ok close) bs ms
       → Answered (reading (limit_of ns) text) (Ok close) ns ms × Promises (Ok close) text ms × Judged (limit_of ns) text (Ok close)
   answered-ok close bs b h = go (reading (limit_of ns) text) refl (filled_at (Ok close) bs b h)
     where
@@ -112,7 +113,7 @@ module _ (text : List ℕ) (ns ms : List Node) where
           let r : reading 65535 text ≡ good s e = more_room (limit_of ns) text s e (omega arith) l in
           ((h.0, m), (t ∙ sym (ap nodes_read r), ap length t ∙ sym d), (s, at_length (limit_of ns) text s e l, c))
 
-  pub answered-err : (f : Fault) (bs cs : List Node) → bs ≡ blanked ns → length ms ≡ length ns → cs ≡ blanked ms
+  answered-err : (f : Fault) (bs cs : List Node) → bs ≡ blanked ns → length ms ≡ length ns → cs ≡ blanked ms
       → Filled (reading (limit_of bs) text) (Err f) bs ms
       → Answered (reading (limit_of ns) text) (Err f) ns cs × Judged (limit_of ns) text (Err f)
   answered-err f bs cs b e1 c h = go (reading (limit_of ns) text) refl (filled_at (Err f) bs b h)
@@ -130,3 +131,17 @@ module _ (text : List ℕ) (ns ms : List Node) where
             ),
           )
       go (good s e) i h = let j = h.0 in let z : ◌≡◌ {A = ℕ} 0 1 = cc in absurd (omega arith)
+
+  -- the same of any answer
+  pub answered-read : (r : Result ℕ Fault) → false ≡ is_err r → (bs : List Node) → bs ≡ blanked ns → Filled (reading (limit_of bs) text) r bs ms
+      → Answered (reading (limit_of ns) text) r ns ms × Promises r text ms × Judged (limit_of ns) text r
+  answered-read (Ok close) e bs b h = answered-ok close bs b h
+  answered-read (Err f) e bs b h = let z : ◌≡◌ {A = ℕ} 0 1 = cc in absurd (omega arith)
+
+  pub answered-refused : (r : Result ℕ Fault) → true ≡ is_err r → (bs cs : List Node) → bs ≡ blanked ns → length ms ≡ length ns
+      → cs ≡ blanked ms → Filled (reading (limit_of bs) text) r bs ms
+      → Answered (reading (limit_of ns) text) r ns cs × Promises r text cs × Judged (limit_of ns) text r
+  answered-refused (Ok close) e bs cs b l c h = let z : ◌≡◌ {A = ℕ} 0 1 = cc in absurd (omega arith)
+  answered-refused (Err f) e bs cs b l c h =
+      let a = answered-err f bs cs b l c h in
+      (a.0, tt, a.1)

@@ -1,5 +1,5 @@
 -- A table whose first places are blank.
-use Rattle.std.proofs.Common.{◌≡◌, ℕ, zero, suc, ◌+◌, ◌<◌, min, List, [], ◌∷◌, ◌++◌, length, drop, set, replicate, sym, refl, ap, ◌∙◌, subst, ⊎_elim, add-one, arith, length-append, length-drop}
+use Rattle.std.proofs.Common.{◌≡◌, ℕ, min, List, [], ◌++◌, length, drop, replicate, sym, ap, ◌∙◌, subst, ⊎_elim, arith, length-append, length-drop}
 use lib.ListN.{length-replicate}
 use lib.Seq.{drop-append_seam}
 use Rattle.std.proofs.lemmas.List.{drop_all}
@@ -7,18 +7,6 @@ use Rattle.std.proofs.lemmas.Bool.{cases_lt}
 use Rattle.grammar.specs.declared.tree.Node.{Node}
 use Rattle.grammar.specs.declared.tree.Node.TheVariants as node
 use Rattle.grammar.specs.Read.{limit_of, blanked}
-
-fill_suc : (i : ℕ) (ns : List Node) → i < length ns → set (replicate i node.Blank ++ drop i ns) i node.Blank
-    ≡ replicate (suc i) node.Blank ++ drop (suc i) ns
-fill_suc zero [] h = absurd (omega arith)
-fill_suc zero (n ∷ ns) h = refl
-fill_suc (suc i) [] h = absurd (omega arith)
-fill_suc (suc i) (n ∷ ns) h = ap (λ z. node.Blank ∷ z) (fill_suc i ns (omega arith))
-
--- one more blank place
-pub fill_more : (i : ℕ) (ns : List Node) → i < length ns → set (replicate i node.Blank ++ drop i ns) i node.Blank
-    ≡ replicate (i + 1) node.Blank ++ drop (i + 1) ns
-fill_more i ns h = rw add-one (fill_suc i ns h)
 
 drop-limit : (ns : List Node) → drop (limit_of ns) ns ≡ drop 65535 ns
 drop-limit ns =

@@ -8,7 +8,7 @@ use Rattle.grammar.specs.Syntax.{Name, places}
 use Rattle.grammar.specs.Productions.{Sort, Part, inner, sign, «the», a_name}
 use Rattle.grammar.specs.Reading.{Out, bad, good, bind, room, steps, single, many, read_part}
 use Rattle.grammar.specs.Table.{span_of, lay_of}
-use Rattle.grammar.specs.Laying.{State, Outcome, refused, done, after, M, lay, lifted, part_laid, mark_m, key_m, name_m, place_m, part_m, many_f}
+use Rattle.grammar.specs.Laying.{State, Outcome, refused, done, after, M, lay, lifted, part_laid, word_m, mark_m, key_m, name_m, place_m, part_m, many_f}
 use Rattle.grammar.specs.Laying.{many_m}
 use Rattle.grammar.specs.Readers.{moved}
 
@@ -66,25 +66,25 @@ module _ (S : Sort) (v0 : State) where
   pub mark-then : (v : State) (m : Mark) (K : Unit → ℕ → Out (Part S)) (k : Unit → M ℕ)
       → ((q : ℕ) → part_laid S (K tt q) v0 ≡ k tt (moved v q))
       → part_laid S (bind (single (sign m) (steps v.text) v.at) K) v0 ≡ after (mark_m m v) k
-  unfolding mark_m
+  unfolding word_m
   mark-then v m K k h = word-step v (λ _. tt) K (λ o. after o k) (λ n e. refl) (λ _ q. h q) _
 
   pub mark-in : {A : Type 0} (v : State) (m : Mark) (K : Unit → ℕ → Out (Part S)) (f : Unit → M A) (k : A → M ℕ)
       → ((q : ℕ) → part_laid S (K tt q) v0 ≡ after (f tt (moved v q)) k)
       → part_laid S (bind (single (sign m) (steps v.text) v.at) K) v0 ≡ after (after (mark_m m v) f) k
-  unfolding mark_m
+  unfolding word_m
   mark-in v m K f k h = word-step v (λ _. tt) K (λ o. after (after o f) k) (λ n e. refl) (λ _ q. h q) _
 
   pub key-then : (v : State) (j : Keyword) (K : Unit → ℕ → Out (Part S)) (k : Unit → M ℕ)
       → ((q : ℕ) → part_laid S (K tt q) v0 ≡ k tt (moved v q))
       → part_laid S (bind (single («the» j) (steps v.text) v.at) K) v0 ≡ after (key_m j v) k
-  unfolding key_m
+  unfolding word_m
   key-then v j K k h = word-step v (λ _. tt) K (λ o. after o k) (λ n e. refl) (λ _ q. h q) _
 
   pub key_in : {A : Type 0} (v : State) (j : Keyword) (K : Unit → ℕ → Out (Part S)) (f : Unit → M A) (k : A → M ℕ)
       → ((q : ℕ) → part_laid S (K tt q) v0 ≡ after (f tt (moved v q)) k)
       → part_laid S (bind (single («the» j) (steps v.text) v.at) K) v0 ≡ after (after (key_m j v) f) k
-  unfolding key_m
+  unfolding word_m
   key_in v j K f k h = word-step v (λ _. tt) K (λ o. after (after o f) k) (λ n e. refl) (λ _ q. h q) _
 
   pub name-then : (v : State) (K : Name → ℕ → Out (Part S)) (k : Span → M ℕ)

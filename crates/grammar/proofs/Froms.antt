@@ -1,5 +1,5 @@
 -- A type or an expression by its first word.
-use Rattle.std.proofs.Common.{◌≡◌, ℕ, ◌-◌, true, false, List, Some, None, Option, sym, refl, ap, ◌∙◌, subst, arith}
+use Rattle.std.proofs.Common.{◌≡◌, ℕ, ◌-◌, true, false, List, Some, None, Ok, Option, Result, sym, refl, ap, ◌∙◌, subst, arith}
 use Rattle.words.specs.declared.keywords.Keyword.{Keyword}
 use Rattle.words.specs.declared.keywords.Keyword.TheVariants as kw
 use Rattle.words.specs.declared.marks.Mark.{Mark}
@@ -8,6 +8,8 @@ use Rattle.grammar.specs.declared.tree.Operator.TheVariants as operator
 use Rattle.grammar.specs.declared.tree.TypeNode.TheVariants as ty
 use Rattle.grammar.specs.declared.tree.ExpNode.TheVariants as ex
 use Rattle.grammar.specs.declared.tree.Node.TheVariants as node
+use Rattle.grammar.specs.declared.faults.Fault.{Fault}
+use Rattle.grammar.specs.declared.reader.Reader.{Reader}
 use Rattle.grammar.specs.declared.next.Next.{Next}
 use Rattle.grammar.specs.declared.next.Next.TheVariants.{End, Name, Number, Key, Sign}
 use Rattle.grammar.specs.declared.forms.TypeStart.{TypeStart}
@@ -21,12 +23,13 @@ use Rattle.grammar.specs.declared.forms.DefinitionStart.TheVariants as fstart
 use Rattle.grammar.specs.Productions.{Sort, a_type, an_exp, a_declaration, a_definition, a_module, Part}
 use Rattle.grammar.specs.Steps.{step_in, next_place, is_key, Whole}
 use Rattle.grammar.specs.Starts.{type_key, type_mark, type_start, open_t, exp_key, exp_mark, exp_start, open_e, declaration_key, declaration_start}
-use Rattle.grammar.specs.Starts.{open_d, definition_key, definition_start, open_f}
+use Rattle.grammar.specs.Starts.{open_d, definition_key, definition_start, open_f, started}
 use Rattle.grammar.specs.Reading.{Out, bad, good, Step, fault, steps, part_from}
 use Rattle.grammar.specs.Table.{name_in}
 use Rattle.grammar.specs.Laying.{State, refused, part_laid, place_m, part_m, from_m, form_m, type_m, exp_m, declaration_m, declared_m, definition_m}
 use Rattle.grammar.specs.Laying.{value_is_m, module_m}
-use Rattle.grammar.specs.Readers.{moved}
+use Rattle.grammar.specs.Readers.{moved, Gave}
+use Rattle.grammar.proofs.Gives.{started-ok}
 use Rattle.grammar.proofs.Singles.{span-back}
 use Rattle.grammar.proofs.Openings.{type-opening, exp-opening, declaration-opening, definition-opening, module-opening, part_step}
 use Rattle.grammar.proofs.Openings.{part-fault, from-none, from_deep, from-form}
@@ -358,6 +361,21 @@ module _ (v : State) (n : Next) (l : ℕ) where
       ap (λ o. part_laid a_definition o v) (from-form a_definition v.text definition_start (open_f v.text)
       (definition-opening v.text) (steps v.text) v.limit v.used n v.at l b e z)
       ∙ definition-form v (next_place n) (l - 1) b (subst (WholeF v.text) (sym e) (whole-definition v.text n w))
+
+-- what is done behind the first word is what an item that begins so does
+pub declaration-from : (v : State) (n : Next) (b : DeclarationStart) (at : ℕ) (r : Result ℕ Fault) (t : Reader)
+    → Ok b ≡ started (declaration_start n) (next_place n) 49 → Whole v.text n → at ≡ next_place n
+    → Gave (declaration_m at 48 b v) r t → Gave (from_m a_declaration n 49 v) r t
+declaration-from v n b at r t e w a d =
+    let s = started-ok (declaration_start n) (next_place n) 49 b e in
+    subst (λ o. Gave o r t) (sym (declaration-some v n 49 b s.0 s.1 w ∙ ap (λ z. declaration_m z 48 b v) (sym a))) d
+
+pub definition-from : (v : State) (n : Next) (b : DefinitionStart) (at : ℕ) (r : Result ℕ Fault) (t : Reader)
+    → Ok b ≡ started (definition_start n) (next_place n) 49 → Whole v.text n → at ≡ next_place n
+    → Gave (definition_m at 48 b v) r t → Gave (from_m a_definition n 49 v) r t
+definition-from v n b at r t e w a d =
+    let s = started-ok (definition_start n) (next_place n) 49 b e in
+    subst (λ o. Gave o r t) (sym (definition-some v n 49 b s.0 s.1 w ∙ ap (λ z. definition_m z 48 b v) (sym a))) d
 
 pub module-some : (v : State) (n : Next) → true ≡ is_key kw.Module n → from_m a_module n 50 v ≡ module_m (next_place n) v
 unfolding from_m

@@ -13,9 +13,9 @@ use Rattle.grammar.proofs.FormSteps.{part_then, part_in, mark-then, mark-in, key
 
 pub qualified-type-form : (at : ℕ) (l : ℕ) (v : State) → form_m a_type (p.t_from, tt) at l v ≡ qualified_type_m at v
 qualified-type-form at l v =
-    name-then a_type v v _ _ (λ m q.
-    key-then a_type v _ kw.Take _ _ (λ q.
-    name-then a_type v _ _ _ (λ t q.
+    name_in a_type v v _ _ _ (λ m q.
+    key_in a_type v _ kw.Take _ _ _ (λ q.
+    name_in a_type v _ _ _ _ (λ t q.
     place-last a_type v q _ _ _ _ at (omega arith) refl)))
 
 pub arrow-form : (at : ℕ) (l : ℕ) (v : State) → form_m a_type (p.t_arrow, tt) at l v ≡ arrow_m at l v
@@ -28,9 +28,9 @@ arrow-form at l v =
 
 pub qualified-form : (at : ℕ) (l : ℕ) (v : State) → form_m an_exp (p.e_from, tt) at l v ≡ qualified_m at v
 qualified-form at l v =
-    name-then an_exp v v _ _ (λ m q.
-    key-then an_exp v _ kw.Take _ _ (λ q.
-    name-then an_exp v _ _ _ (λ x q.
+    name_in an_exp v v _ _ _ (λ m q.
+    key_in an_exp v _ kw.Take _ _ _ (λ q.
+    name_in an_exp v _ _ _ _ (λ x q.
     place-last an_exp v q _ _ _ _ at (omega arith) refl)))
 
 pub zero-form : (at : ℕ) (l : ℕ) (v : State) → form_m an_exp (p.e_zero, tt) at l v ≡ is_zero_m at l v
@@ -106,9 +106,9 @@ opaque-form at l v =
 
 pub transparent-form : (at : ℕ) (l : ℕ) (v : State) → form_m a_declaration (p.d_transparent, tt) at l v ≡ transparent_m at l v
 transparent-form at l v =
-    name-then a_declaration v v _ _ (λ t q.
-    mark-then a_declaration v _ mk.Equal _ _ (λ q.
-    part_then a_declaration v _ a_type l _ _ (λ a q.
+    name_in a_declaration v v _ _ _ (λ t q.
+    mark-in a_declaration v _ mk.Equal _ _ _ (λ q.
+    part_in a_declaration v _ a_type l _ _ _ (λ a q.
     place-last a_declaration v q _ _ _ _ at (omega arith) refl)))
 
 pub declared-form : (x : Name) (at : ℕ) (l : ℕ) (v : State) → form_m a_declaration (p.d_value, x) at l v ≡ declared_m (span_of x) at l v
@@ -119,9 +119,9 @@ declared-form x at l v =
 
 pub type-is-form : (at : ℕ) (l : ℕ) (v : State) → form_m a_definition (p.f_type, tt) at l v ≡ type_is_m at l v
 type-is-form at l v =
-    name-then a_definition v v _ _ (λ t q.
-    mark-then a_definition v _ mk.Equal _ _ (λ q.
-    part_then a_definition v _ a_type l _ _ (λ a q.
+    name_in a_definition v v _ _ _ (λ t q.
+    mark-in a_definition v _ mk.Equal _ _ _ (λ q.
+    part_in a_definition v _ a_type l _ _ _ (λ a q.
     place-last a_definition v q _ _ _ _ at (omega arith) refl)))
 
 pub value-is-form : (x : Name) (at : ℕ) (l : ℕ) (v : State) → form_m a_definition (p.f_value, x) at l v ≡ value_is_m (span_of x) at l v

@@ -20,7 +20,7 @@ use Rattle.grammar.specs.declared.forms.DeclarationStart.TheVariants as dstart
 use Rattle.grammar.specs.declared.forms.DefinitionStart.{DefinitionStart}
 use Rattle.grammar.specs.declared.forms.DefinitionStart.TheVariants as fstart
 use Rattle.grammar.specs.declared.next.Next.{Next}
-use Rattle.grammar.specs.Productions.{«the», sign, a_name, Sort, a_type, an_exp, a_declaration, a_definition, a_module, Part, inner, Opening}
+use Rattle.grammar.specs.Productions.{Single, «the», sign, a_name, Sort, a_type, an_exp, a_declaration, a_definition, a_module, Part, inner, Opening}
 use Rattle.grammar.specs.Productions.{place_of}
 use Rattle.grammar.specs.Syntax.{Sheet, inner_e, inner_m, places}
 use Rattle.grammar.specs.Steps.{step_in}
@@ -75,13 +75,17 @@ lifted (good a q) value used laid v = done (value a) (record {
       v.table;
 })
 
--- one mark, one keyword, one name
-unfoldable pub mark_m : Mark → M Unit
-mark_m m v = lifted (single (sign m) (steps v.text) v.at) (λ _. tt) (λ _. v.used) (λ _ ns. ns) v
+-- one word of a symbol
+unfoldable pub word_m : Single → M Unit
+word_m m v = lifted (single m (steps v.text) v.at) (λ _. tt) (λ _. v.used) (λ _ ns. ns) v
+
+-- one mark
+abbrev pub mark_m : Mark → M Unit
+mark_m m = word_m (sign m)
 
 -- one keyword
-unfoldable pub key_m : Keyword → M Unit
-key_m k v = lifted (single («the» k) (steps v.text) v.at) (λ _. tt) (λ _. v.used) (λ _ ns. ns) v
+abbrev pub key_m : Keyword → M Unit
+key_m k = word_m («the» k)
 
 -- one name, as a span
 unfoldable pub name_m : M Span
@@ -117,13 +121,19 @@ form_m s o at l v = part_laid s (formed (steps v.text) v.limit (read_part l (ste
 
 -- THE FORMS, each behind its first word
 
+-- a name taken from a module, `m take x`
+abbrev pub taken_m : M (Span × Span)
+taken_m = do
+  m ← name_m
+  key_m kw.Take
+  x ← name_m
+  give (m, x)
+
 -- `from m take t`
 abbrev pub qualified_type_m : ℕ → M ℕ
 qualified_type_m at = do
-  m ← name_m
-  key_m kw.Take
-  t ← name_m
-  place_m (node.«Type» (ty.From at m t)) at
+  mt ← taken_m
+  place_m (node.«Type» (ty.From at mt.0 mt.1)) at
 
 -- `(T -> T)`
 abbrev pub arrow_m : ℕ → ℕ → M ℕ
@@ -145,10 +155,8 @@ type_m at l tstart.Arrow = arrow_m at l
 -- `from m take x`
 abbrev pub qualified_m : ℕ → M ℕ
 qualified_m at = do
-  m ← name_m
-  key_m kw.Take
-  x ← name_m
-  place_m (node.Expression (ex.From at m x)) at
+  mx ← taken_m
+  place_m (node.Expression (ex.From at mx.0 mx.1)) at
 
 -- `zero?(E)`
 abbrev pub is_zero_m : ℕ → ℕ → M ℕ
@@ -264,13 +272,19 @@ opaque_m at = do
   t ← name_m
   place_m (node.Item (item.Opaque at t)) at
 
--- `transparent t = T`
-abbrev pub transparent_m : ℕ → ℕ → M ℕ
-transparent_m at l = do
+-- a type's name and what it is, `t = T`
+abbrev pub equated_m : ℕ → M (Span × ℕ)
+equated_m l = do
   t ← name_m
   mark_m mk.Equal
   a ← part_m a_type l
-  place_m (node.Item (item.Transparent at t a)) at
+  give (t, a)
+
+-- `transparent t = T`
+abbrev pub transparent_m : ℕ → ℕ → M ℕ
+transparent_m at l = do
+  ta ← equated_m l
+  place_m (node.Item (item.Transparent at ta.0 ta.1)) at
 
 -- `x : T`
 abbrev pub declared_m : Span → ℕ → ℕ → M ℕ
@@ -288,10 +302,8 @@ declaration_m at l (dstart.Value x) = declared_m x at l
 -- `type t = T`
 abbrev pub type_is_m : ℕ → ℕ → M ℕ
 type_is_m at l = do
-  t ← name_m
-  mark_m mk.Equal
-  a ← part_m a_type l
-  place_m (node.Item (item.TypeIs at t a)) at
+  ta ← equated_m l
+  place_m (node.Item (item.TypeIs at ta.0 ta.1)) at
 
 -- `x = E`
 abbrev pub value_is_m : Span → ℕ → ℕ → M ℕ

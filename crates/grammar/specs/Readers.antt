@@ -38,9 +38,10 @@ abbrev pub Gave : {A : Type 0} → Outcome A → Result A Fault → Reader → T
 Gave (refused k e) r t = told r ≡ Some (refusal k e)
 Gave (done a v) r t = Done a v r t
 
--- what a function of the reader gives, from s to t
-abbrev pub Gives : {A : Type 0} → M A → Result A Fault → Reader → Reader → Type 0
-Gives m r s t = Gave (m (state_of s)) r t
+-- what a function of the reader does, from s to t: the table is the lent one, and the answer and what is laid are the steps'
+pub record Gives {A : Type 0} (m : M A) (r : Result A Fault) (s t : Reader) : Type 0 where
+  pub kept : Kept s t
+  pub gives : Gave (m (state_of s)) r t
 
 -- the state behind the next word
 abbrev pub moved : State → ℕ → State

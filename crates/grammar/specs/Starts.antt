@@ -1,10 +1,12 @@
 -- The forms of types and expressions by what begins them, as code tells them apart. Assumes nothing.
-use Rattle.std.specs.Prelude.{ℕ, true, false, List, Some, None, Option}
+use Rattle.std.specs.Prelude.{ℕ, true, false, cond, List, Some, None, Ok, Err, Option, Result, ◌==◌}
 use Rattle.words.specs.declared.keywords.Keyword.{Keyword}
 use Rattle.words.specs.declared.keywords.Keyword.TheVariants as kw
 use Rattle.words.specs.declared.marks.Mark.{Mark}
 use Rattle.words.specs.declared.marks.Mark.TheVariants as mk
 use Rattle.grammar.specs.declared.tree.Operator.TheVariants as operator
+use Rattle.grammar.specs.declared.faults.Fault.{Fault}
+use Rattle.grammar.specs.declared.faults.Fault.TheVariants.{Unexpected, TooDeep}
 use Rattle.grammar.specs.declared.next.Next.{Next}
 use Rattle.grammar.specs.declared.next.Next.TheVariants.{End, Name, Number, Key, Sign}
 use Rattle.grammar.specs.declared.forms.TypeStart.{TypeStart}
@@ -215,6 +217,11 @@ definition_start (Sign at m) = None
 abbrev pub open_f : List ℕ → DefinitionStart → Opening a_definition
 open_f text df.Named = (p.f_type, tt)
 open_f text (df.Value x) = (p.f_value, name_in text x)
+
+-- the form that begins at a place, or its refusal: no form begins so, or no level is left
+abbrev pub started : {S : Type 0} → Option S → ℕ → ℕ → Result S Fault
+started None at l = Err (Unexpected at)
+started (Some b) at l = cond (l == 0) (Err (TooDeep at)) (Ok b)
 
 -- a form that was begun, or refusal 5 there
 abbrev pub begun : {S B : Type 0} → Option S → ℕ → (S → Out B) → Out B

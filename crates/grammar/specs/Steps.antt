@@ -1,5 +1,5 @@
 -- What comes next in a text, as code holds it. Assumes nothing.
-use Rattle.std.specs.Prelude.{◌≡◌, ℕ, ◌<◌, ◌≤◌, Bool, false, List, length, Some, None, Option, ◌==◌}
+use Rattle.std.specs.Prelude.{◌≡◌, ℕ, ◌<◌, ◌≤◌, Bool, true, false, List, length, Some, None, Option, ◌==◌}
 use Rattle.language.specs.declared.spans.Span.{Span}
 use Rattle.words.specs.declared.keywords.Keyword.{Keyword}
 use Rattle.words.specs.declared.marks.Mark.{Mark}
@@ -9,7 +9,7 @@ use Rattle.words.specs.Words.{size_of, figure_of, largest}
 use Rattle.language.specs.Bindings.{spelled_in}
 use Rattle.grammar.specs.declared.next.Next.{Next}
 use Rattle.grammar.specs.declared.next.Next.TheVariants.{End, Name, Number, Key, Sign}
-use Rattle.grammar.specs.Productions.{name, number, key, mark, key_code, mark_code}
+use Rattle.grammar.specs.Productions.{name, number, key, mark, key_code, mark_code, Single, «the», sign, a_name, a_number}
 use Rattle.grammar.specs.Reading.{Step, end, word}
 use Rattle.grammar.specs.Table.{name_in}
 
@@ -60,6 +60,29 @@ is_key k (Name x) = false
 is_key k (Number at v) = false
 is_key k (Key at j) = key_code j == key_code k
 is_key k (Sign at m) = false
+
+-- whether it is a name
+abbrev pub is_name : Next → Bool
+is_name (End at) = false
+is_name (Name x) = true
+is_name (Number at v) = false
+is_name (Key at k) = false
+is_name (Sign at m) = false
+
+-- whether it is a number
+abbrev pub is_number : Next → Bool
+is_number (End at) = false
+is_number (Name x) = false
+is_number (Number at v) = true
+is_number (Key at k) = false
+is_number (Sign at m) = false
+
+-- whether it is a word of the symbol
+abbrev pub is_word : Single → Next → Bool
+is_word («the» k) n = is_key k n
+is_word (sign m) n = is_mark m n
+is_word a_name n = is_name n
+is_word a_number n = is_number n
 
 -- the span at a place, so long
 abbrev pub span_at : ℕ → ℕ → Span

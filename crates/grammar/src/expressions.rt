@@ -1,15 +1,14 @@
 ghost use Rattle.std.specs.Prelude.{◌≡◌, ℕ, ◌-◌};
 ghost use Rattle.grammar.specs.Productions.{an_exp};
 ghost use Rattle.grammar.specs.Steps.{Whole};
-ghost use Rattle.grammar.specs.Readers.{Kept, text_of, Gives};
+ghost use Rattle.grammar.specs.Readers.{text_of, Gives};
 ghost use Rattle.grammar.specs.Laying.{part_m, from_m, exp_m, qualified_m, is_zero_m, apply_m, proc_m, bound_m, let_m, if_m, letrec_m, pair_m, binary_m};
 
 use crate::faults::Fault;
 use crate::forms::ExpStart;
 use crate::next::Next;
 use crate::reader::Reader;
-use crate::starts::exp_start;
-use crate::steps::place_of;
+use crate::starts::begun;
 use crate::tree::{ExpNode, Node, Operator};
 use words::{Keyword, Mark};
 
@@ -17,8 +16,7 @@ impl Reader<'_, '_> {
     // An expression of at most `levels` levels.
     #[cycle(expressions)]
     pub fn expression(&mut self, levels: u8) -> Result<u16, Fault>
-        ensures kept { Kept self.old self.new }
-        ensures gives { Gives (part_m an_exp levels) result self.old self.new }
+        ensures { Gives (part_m an_exp levels) result self.old self.new }
     {
         let first = self.next()?;
         self.expression_from(first, levels)
@@ -28,24 +26,16 @@ impl Reader<'_, '_> {
     #[cycle(expressions)]
     pub fn expression_from(&mut self, first: Next, levels: u8) -> Result<u16, Fault>
         requires { Whole (text_of self.old) first }
-        ensures kept { Kept self.old self.new }
-        ensures gives { Gives (from_m an_exp first levels) result self.old self.new }
+        ensures { Gives (from_m an_exp first levels) result self.old self.new }
     {
-        let at = place_of(first);
-        let Some(start) = exp_start(first) else {
-            return Err(Fault::Unexpected(at as usize));
-        };
-        if levels == 0 {
-            return Err(Fault::TooDeep(at as usize));
-        }
-        self.expression_form(start, at, levels - 1)
+        let start = begun(first, levels)?;
+        self.expression_form(start, first.place(), levels - 1)
     }
 
     // The rest of an expression behind its first word, which stands at `at`; its parts have at most `levels` levels.
     #[cycle(expressions)]
     fn expression_form(&mut self, start: ExpStart, at: u16, levels: u8) -> Result<u16, Fault>
-        ensures kept { Kept self.old self.new }
-        ensures gives { Gives (exp_m at levels start) result self.old self.new }
+        ensures { Gives (exp_m at levels start) result self.old self.new }
     {
         match start {
             ExpStart::Number(value) => self.place(
@@ -72,34 +62,29 @@ impl Reader<'_, '_> {
     }
 
     fn qualified(&mut self, at: u16) -> Result<u16, Fault>
-        ensures kept { Kept self.old self.new }
-        ensures gives { Gives (qualified_m at) result self.old self.new }
+        ensures { Gives (qualified_m at) result self.old self.new }
     {
-        let module = self.name()?;
-        self.keyword(Keyword::Take)?;
-        let name = self.name()?;
+        let (module, name) = self.taken()?;
         self.place(Node::Expression(ExpNode::From { at, module, name }), at)
     }
 
     #[cycle(expressions)]
     fn is_zero(&mut self, at: u16, levels: u8) -> Result<u16, Fault>
-        ensures kept { Kept self.old self.new }
-        ensures gives { Gives (is_zero_m at levels) result self.old self.new }
+        ensures { Gives (is_zero_m at levels) result self.old self.new }
     {
-        self.mark(Mark::Open)?;
+        self.expect(Mark::Open)?;
         let part = self.expression(levels)?;
-        self.mark(Mark::Shut)?;
+        self.expect(Mark::Shut)?;
         self.place(Node::Expression(ExpNode::IsZero { at, part }), at)
     }
 
     #[cycle(expressions)]
     fn application(&mut self, at: u16, levels: u8) -> Result<u16, Fault>
-        ensures kept { Kept self.old self.new }
-        ensures gives { Gives (apply_m at levels) result self.old self.new }
+        ensures { Gives (apply_m at levels) result self.old self.new }
     {
         let operator = self.expression(levels)?;
         let operand = self.expression(levels)?;
-        self.mark(Mark::Shut)?;
+        self.expect(Mark::Shut)?;
         self.place(
             Node::Expression(ExpNode::Apply {
                 at,
@@ -112,8 +97,7 @@ impl Reader<'_, '_> {
 
     #[cycle(expressions)]
     fn procedure(&mut self, at: u16, levels: u8) -> Result<u16, Fault>
-        ensures kept { Kept self.old self.new }
-        ensures gives { Gives (proc_m at levels) result self.old self.new }
+        ensures { Gives (proc_m at levels) result self.old self.new }
     {
         let (parameter, of) = self.parameter(levels)?;
         let body = self.expression(levels)?;
@@ -131,20 +115,18 @@ impl Reader<'_, '_> {
     // What is bound, and the expression that it is bound in.
     #[cycle(expressions)]
     fn bound(&mut self, levels: u8) -> Result<(u16, u16), Fault>
-        ensures kept { Kept self.old self.new }
-        ensures gives { Gives (bound_m levels) result self.old self.new }
+        ensures { Gives (bound_m levels) result self.old self.new }
     {
-        self.mark(Mark::Equal)?;
+        self.expect(Mark::Equal)?;
         let bound = self.expression(levels)?;
-        self.keyword(Keyword::In)?;
+        self.expect(Keyword::In)?;
         let body = self.expression(levels)?;
         Ok((bound, body))
     }
 
     #[cycle(expressions)]
     fn let_in(&mut self, at: u16, levels: u8) -> Result<u16, Fault>
-        ensures kept { Kept self.old self.new }
-        ensures gives { Gives (let_m at levels) result self.old self.new }
+        ensures { Gives (let_m at levels) result self.old self.new }
     {
         let name = self.name()?;
         let (bound, body) = self.bound(levels)?;
@@ -161,13 +143,12 @@ impl Reader<'_, '_> {
 
     #[cycle(expressions)]
     fn conditional(&mut self, at: u16, levels: u8) -> Result<u16, Fault>
-        ensures kept { Kept self.old self.new }
-        ensures gives { Gives (if_m at levels) result self.old self.new }
+        ensures { Gives (if_m at levels) result self.old self.new }
     {
         let test = self.expression(levels)?;
-        self.keyword(Keyword::Then)?;
+        self.expect(Keyword::Then)?;
         let consequent = self.expression(levels)?;
-        self.keyword(Keyword::Else)?;
+        self.expect(Keyword::Else)?;
         let alternative = self.expression(levels)?;
         self.place(
             Node::Expression(ExpNode::If {
@@ -182,8 +163,7 @@ impl Reader<'_, '_> {
 
     #[cycle(expressions)]
     fn letrec(&mut self, at: u16, levels: u8) -> Result<u16, Fault>
-        ensures kept { Kept self.old self.new }
-        ensures gives { Gives (letrec_m at levels) result self.old self.new }
+        ensures { Gives (letrec_m at levels) result self.old self.new }
     {
         let result = self.ty(levels)?;
         let name = self.name()?;
@@ -206,21 +186,19 @@ impl Reader<'_, '_> {
     // A pair, whose sides have at most `levels` levels.
     #[cycle(expressions)]
     fn pair(&mut self, levels: u8) -> Result<(u16, u16), Fault>
-        ensures kept { Kept self.old self.new }
-        ensures gives { Gives (pair_m levels) result self.old self.new }
+        ensures { Gives (pair_m levels) result self.old self.new }
     {
-        self.mark(Mark::Open)?;
+        self.expect(Mark::Open)?;
         let left = self.expression(levels)?;
-        self.mark(Mark::Comma)?;
+        self.expect(Mark::Comma)?;
         let right = self.expression(levels)?;
-        self.mark(Mark::Shut)?;
+        self.expect(Mark::Shut)?;
         Ok((left, right))
     }
 
     #[cycle(expressions)]
     fn binary(&mut self, at: u16, operator: Operator, levels: u8) -> Result<u16, Fault>
-        ensures kept { Kept self.old self.new }
-        ensures gives { Gives (binary_m at operator levels) result self.old self.new }
+        ensures { Gives (binary_m at operator levels) result self.old self.new }
     {
         let (left, right) = self.pair(levels)?;
         self.place(

@@ -16,7 +16,7 @@ pub enum Fault {
 }
 
 // The layer that refuses.
-#[derive(Clone, Copy)]
+#[derive(Clone, Copy, Debug, PartialEq, Eq)]
 pub enum Layer {
     Words,
     Grammar,
@@ -30,44 +30,39 @@ impl From<WordFault> for Fault {
     }
 }
 
-// A refusal's number.
-pub fn fault_number(fault: Fault) -> u8
-    ensures { result ≡ (refusal_of fault).number }
-{
-    match fault {
-        Fault::Word(WordFault::TooLong) => 1,
-        Fault::Word(WordFault::Stray(_)) => 2,
-        Fault::Word(WordFault::LongName(_)) => 3,
-        Fault::Word(WordFault::LargeNumber(_)) => 4,
-        Fault::Unexpected(_) => 5,
-        Fault::TooDeep(_) => 6,
-        Fault::TooManyModules(_) => 7,
-        Fault::TreeFull(_) => 21,
+impl Fault {
+    // What the refusal is known by.
+    pub fn number(self) -> u8
+        ensures { result ≡ (refusal_of self).number }
+    {
+        match self {
+            Fault::Word(fault) => fault.number() as u8,
+            Fault::Unexpected(_) => 5,
+            Fault::TooDeep(_) => 6,
+            Fault::TooManyModules(_) => 7,
+            Fault::TreeFull(_) => 21,
+        }
     }
-}
 
-// Its place in the text.
-pub fn fault_place(fault: Fault) -> usize
-    ensures { result ≡ (refusal_of fault).place }
-{
-    match fault {
-        Fault::Word(WordFault::TooLong) => 32768,
-        Fault::Word(WordFault::Stray(at)) => at,
-        Fault::Word(WordFault::LongName(at)) => at,
-        Fault::Word(WordFault::LargeNumber(at)) => at,
-        Fault::Unexpected(at) => at,
-        Fault::TooDeep(at) => at,
-        Fault::TooManyModules(at) => at,
-        Fault::TreeFull(at) => at,
+    // Its place in the text.
+    pub fn place(self) -> usize
+        ensures { result ≡ (refusal_of self).place }
+    {
+        match self {
+            Fault::Word(fault) => fault.place(),
+            Fault::Unexpected(at)
+            | Fault::TooDeep(at)
+            | Fault::TooManyModules(at)
+            | Fault::TreeFull(at) => at,
+        }
     }
-}
 
-// Its layer.
-pub fn fault_layer(fault: Fault) -> Layer
-    ensures { result ≡ (refusal_of fault).layer }
-{
-    match fault {
-        Fault::Word(_) => Layer::Words,
-        _ => Layer::Grammar,
+    pub fn layer(self) -> Layer
+        ensures { result ≡ (refusal_of self).layer }
+    {
+        match self {
+            Fault::Word(_) => Layer::Words,
+            _ => Layer::Grammar,
+        }
     }
 }

@@ -1,6 +1,7 @@
 // Reading a sheet into a tree table that the caller lends.
 #![tactic(auto)]
 
+mod expected;
 mod expressions;
 pub mod faults;
 mod forms;

@@ -1,3 +1,8 @@
+ghost use Rattle.std.specs.Prelude.{◌≡◌};
+ghost use Rattle.grammar.specs.declared.faults.Fault.TheVariants.{Unexpected};
+ghost use Rattle.grammar.specs.Steps.{next_place};
+
+use crate::faults::Fault;
 use language::spans::Span;
 use words::{Keyword, Mark};
 
@@ -9,4 +14,26 @@ pub enum Next {
     Number { at: u16, value: i32 },
     Key { at: u16, key: Keyword },
     Sign { at: u16, mark: Mark },
+}
+
+impl Next {
+    // Where the word stands, or where the text ends.
+    pub fn place(self) -> u16
+        ensures { result ≡ next_place self }
+    {
+        match self {
+            Next::Name { name } => name.place,
+            Next::End { at }
+            | Next::Number { at, .. }
+            | Next::Key { at, .. }
+            | Next::Sign { at, .. } => at,
+        }
+    }
+
+    // The refusal of a word with which no sheet goes on.
+    pub fn unexpected(self) -> Fault
+        ensures { result ≡ Unexpected (next_place self) }
+    {
+        Fault::Unexpected(usize::from(self.place()))
+    }
 }

@@ -14,9 +14,7 @@ fn blank(tree: &mut [Node])
     ensures { tree.new ≡ blanked tree.old }
 {
     let limit = tree.len().min(65535);
-    for i in 0..limit {
-        tree[i] = Node::Blank;
-    }
+    tree[..limit].fill(Node::Blank);
 }
 
 // Fills the table from its front, and leaves it half filled on refusal.
@@ -33,15 +31,6 @@ fn fill(text: &[u8], tree: &mut [Node]) -> Result<u16, Fault>
     reader.whole_sheet()
 }
 
-// Answers a refusal, over a blank table.
-fn refused(tree: &mut [Node], fault: Fault) -> Result<u16, Fault>
-    ensures leaves { tree.new ≡ blanked tree.old }
-    ensures answers { result ≡ Err fault }
-{
-    blank(tree); // a refusal leaves nothing behind
-    Err(fault)
-}
-
 // Reads a text into the table: the nodes of its sheet from place 0 on, then blank places. The answer is the place of the closing
 // expression, the last of the nodes.
 pub fn read(text: &[u8], tree: &mut [Node]) -> Result<u16, Fault>
@@ -50,10 +39,11 @@ pub fn read(text: &[u8], tree: &mut [Node]) -> Result<u16, Fault>
     ensures judged { Judged (limit_of tree.old) text.now result }
 {
     blank(tree);
-    match fill(text, tree) {
-        Ok(close) => Ok(close),
-        Err(fault) => refused(tree, fault),
+    let answer = fill(text, tree);
+    if answer.is_err() {
+        blank(tree); // a refusal leaves nothing behind
     }
+    answer
 }
 
 // The sheet that `read` has read; `close` is what it answered.
@@ -63,10 +53,9 @@ pub fn sheet<'t, 'r>(text: &'t [u8], tree: &'r [Node], close: u16) -> ReadSheet<
     ensures tree { result.tree.now ≡ take (close + 1) tree.now }
     ensures close { result.close ≡ close }
 {
-    let count = close as usize + 1;
     ReadSheet {
         text,
-        tree: &tree[..count],
+        tree: &tree[..=usize::from(close)],
         close,
     }
 }

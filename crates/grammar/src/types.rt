@@ -1,15 +1,14 @@
 ghost use Rattle.std.specs.Prelude.{◌≡◌, ℕ, ◌-◌};
 ghost use Rattle.grammar.specs.Productions.{a_type};
 ghost use Rattle.grammar.specs.Steps.{Whole};
-ghost use Rattle.grammar.specs.Readers.{Kept, text_of, Gives};
-ghost use Rattle.grammar.specs.Laying.{part_m, from_m, type_m, arrow_m, qualified_type_m, parameter_m};
+ghost use Rattle.grammar.specs.Readers.{text_of, Gives};
+ghost use Rattle.grammar.specs.Laying.{part_m, from_m, type_m, arrow_m, taken_m, qualified_type_m, parameter_m};
 
 use crate::faults::Fault;
 use crate::forms::TypeStart;
 use crate::next::Next;
 use crate::reader::Reader;
-use crate::starts::type_start;
-use crate::steps::place_of;
+use crate::starts::begun;
 use crate::tree::{Node, TypeNode};
 use language::spans::Span;
 use words::{Keyword, Mark};
@@ -18,8 +17,7 @@ impl Reader<'_, '_> {
     // A type of at most `levels` levels.
     #[cycle(types)]
     pub fn ty(&mut self, levels: u8) -> Result<u16, Fault>
-        ensures kept { Kept self.old self.new }
-        ensures gives { Gives (part_m a_type levels) result self.old self.new }
+        ensures { Gives (part_m a_type levels) result self.old self.new }
     {
         let first = self.next()?;
         self.type_from(first, levels)
@@ -29,24 +27,16 @@ impl Reader<'_, '_> {
     #[cycle(types)]
     fn type_from(&mut self, first: Next, levels: u8) -> Result<u16, Fault>
         requires { Whole (text_of self.old) first }
-        ensures kept { Kept self.old self.new }
-        ensures gives { Gives (from_m a_type first levels) result self.old self.new }
+        ensures { Gives (from_m a_type first levels) result self.old self.new }
     {
-        let at = place_of(first);
-        let Some(start) = type_start(first) else {
-            return Err(Fault::Unexpected(at as usize));
-        };
-        if levels == 0 {
-            return Err(Fault::TooDeep(at as usize));
-        }
-        self.type_form(start, at, levels - 1)
+        let start = begun(first, levels)?;
+        self.type_form(start, first.place(), levels - 1)
     }
 
     // The rest of a type behind its first word, which stands at `at`; its parts have at most `levels` levels.
     #[cycle(types)]
     fn type_form(&mut self, start: TypeStart, at: u16, levels: u8) -> Result<u16, Fault>
-        ensures kept { Kept self.old self.new }
-        ensures gives { Gives (type_m at levels start) result self.old self.new }
+        ensures { Gives (type_m at levels start) result self.old self.new }
     {
         match start {
             TypeStart::Int => self.place(Node::Type(TypeNode::Int { at }), at),
@@ -57,38 +47,43 @@ impl Reader<'_, '_> {
         }
     }
 
-    fn qualified_type(&mut self, at: u16) -> Result<u16, Fault>
-        ensures kept { Kept self.old self.new }
-        ensures gives { Gives (qualified_type_m at) result self.old self.new }
+    // A module's name and the name taken from it.
+    pub fn taken(&mut self) -> Result<(Span, Span), Fault>
+        ensures { Gives (taken_m) result self.old self.new }
     {
         let module = self.name()?;
-        self.keyword(Keyword::Take)?;
+        self.expect(Keyword::Take)?;
         let name = self.name()?;
+        Ok((module, name))
+    }
+
+    fn qualified_type(&mut self, at: u16) -> Result<u16, Fault>
+        ensures { Gives (qualified_type_m at) result self.old self.new }
+    {
+        let (module, name) = self.taken()?;
         self.place(Node::Type(TypeNode::From { at, module, name }), at)
     }
 
     #[cycle(types)]
     fn arrow(&mut self, at: u16, levels: u8) -> Result<u16, Fault>
-        ensures kept { Kept self.old self.new }
-        ensures gives { Gives (arrow_m at levels) result self.old self.new }
+        ensures { Gives (arrow_m at levels) result self.old self.new }
     {
         let from = self.ty(levels)?;
-        self.mark(Mark::Arrow)?;
+        self.expect(Mark::Arrow)?;
         let to = self.ty(levels)?;
-        self.mark(Mark::Shut)?;
+        self.expect(Mark::Shut)?;
         self.place(Node::Type(TypeNode::Arrow { at, from, to }), at)
     }
 
     // A parameter with its type, in parentheses.
     pub fn parameter(&mut self, levels: u8) -> Result<(Span, u16), Fault>
-        ensures kept { Kept self.old self.new }
-        ensures gives { Gives (parameter_m levels) result self.old self.new }
+        ensures { Gives (parameter_m levels) result self.old self.new }
     {
-        self.mark(Mark::Open)?;
+        self.expect(Mark::Open)?;
         let name = self.name()?;
-        self.mark(Mark::Colon)?;
+        self.expect(Mark::Colon)?;
         let of = self.ty(levels)?;
-        self.mark(Mark::Shut)?;
+        self.expect(Mark::Shut)?;
         Ok((name, of))
     }
 }

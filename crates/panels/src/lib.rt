@@ -7,7 +7,6 @@ ghost use Rattle.grammar.specs.Read.{limit_of};
 ghost use Rattle.grammar.specs.declared.faults.Layer.TheVariants.{Words, Grammar};
 ghost use Rattle.panels.specs.Lines.{answer_bytes, line_of, read_bytes, refused_bytes};
 
-use grammar::faults::{fault_layer, fault_number, fault_place};
 use grammar::read::read;
 use grammar::{Fault, Layer, Node};
 use std::alloc::{AllocError, Global};
@@ -51,9 +50,9 @@ fn told(heap: Global, answer: Result<u16, Fault>) -> Result<String, AllocError>
         Ok(close) => counted(heap, u32::from(close) + 1),
         Err(fault) => refused(
             heap,
-            fault_number(fault),
-            fault_place(fault),
-            fault_layer(fault),
+            fault.number(),
+            fault.place(),
+            fault.layer(),
         ),
     }
 }

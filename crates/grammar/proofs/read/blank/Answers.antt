@@ -1,15 +1,12 @@
-use Rattle.std.proofs.Common.{◌≡◌, ◌<◌, length, set, ap, ◌∙◌, arith}
+use Rattle.std.proofs.Common.{◌≡◌, ◌++◌, length, take, drop, replicate, ap, ◌∙◌, arith, length-take}
 use Rattle.grammar.specs.declared.tree.Node.TheVariants as node
-use Rattle.grammar.specs.Read.{limit_of}
-use Rattle.grammar.proofs.Blanks.{fill_more, fill-all}
+use Rattle.grammar.proofs.Blanks.{fill-all}
 use Rattle.grammar.proofs.read.blank.Goals as goal
-
-pub loop-i-preserved : goal.loop-i-preserved
-loop-i-preserved c =
-    let h : c.loop-i.i < length c.args.tree.now = omega arith in
-    ap (λ z. set z c.loop-i.i node.Blank) c.loop-i.invariant ∙ fill_more c.loop-i.i c.args.tree.now h
 
 pub returns : goal.returns
 returns c =
-    let h : c.loop-i.i ≡ limit_of c.args.tree.now = omega arith in
-    c.loop-i.invariant ∙ fill-all c.loop-i.i c.args.tree.now h
+    let ns = c.args.tree.now in
+    let limit = c.min-limit.result in
+    let n : length (take limit ns) ≡ limit = omega (arith, length-take limit ns) in
+    ap (λ z. z ++ drop limit ns) (c.fill.ensures.after (λ y h. h) ∙ ap (λ k. replicate k node.Blank) n)
+    ∙ fill-all limit ns c.min-limit.ensures

@@ -1,8 +1,10 @@
-use Rattle.std.proofs.Common.{◌-◌, Some, sym, refl, ap, ◌∙◌, subst, rules}
+use Rattle.std.proofs.Common.{◌-◌, Some, sym, ap, ◌∙◌, subst, rules}
 use Rattle.std.proofs.lemmas.Result.{err_from_is_err_and}
 use Rattle.grammar.specs.Productions.{a_type}
 use Rattle.grammar.specs.Laying.{from_m, type_m}
 use Rattle.grammar.specs.Readers.{state_of, Gave}
+use Rattle.grammar.specs.Starts.{type_start}
+use Rattle.grammar.proofs.Gives.{started-ok, started-err}
 use Rattle.grammar.proofs.Readers.{kept_then}
 use Rattle.grammar.proofs.Froms.{part-refused, part-begun, type-none, type-deep, type-some}
 use Rattle.grammar.proofs.reader.Reader.+types.Goals as goal
@@ -28,25 +30,27 @@ ty-returns t c =
           (λ o. Gave o c.type_from.result c.type_from.new.self) (sym e) d.gives;
     }
 
-pub type_from-returns-in_default : goal.type_from-returns-in_default
-type_from-returns-in_default t c =
-    let e = type-none (state_of c.args.self.now) c.args.first c.args.levels c.in_default.ensures in
-    record { kept = search rules; gives = rw (e, c.place_of-at.ensures) refl }
-
-pub type_from-returns-then-levels-eq0 : goal.type_from-returns-then-levels-eq0
-type_from-returns-then-levels-eq0 t c =
-    let e = type-deep (state_of c.args.self.now) c.args.first c.args.levels c.in-Some.start c.in-Some.ensures
-    c.if-levels-eq0.true in
-    record { kept = search rules; gives = rw (e, c.place_of-at.ensures) refl }
+pub type_from-returns-in_err-start : goal.type_from-returns-in_err-start
+type_from-returns-in_err-start t c =
+    let v = state_of c.args.self.now in
+    let n = c.args.first in
+    let l = c.args.levels in
+    let r = err_from_is_err_and c.from_residual.result c.from_residual.ensures.1 in
+    record {
+      kept = search rules;
+      gives = rw (r.1, r.2) (started-err (type_start n) _ l _ (from_m a_type n l v) c.args.self.now c.in_err-start.ensures
+          (type-none v n l) (type-deep v n l));
+    }
 
 pub type_from-returns : goal.type_from-returns
 type_from-returns t c =
     let v = state_of c.args.self.now in
-    let b = c.in-Some.start in
+    let n = c.args.first in
+    let b = c.in_ok-start.start in
     let l = c.args.levels in
     let d = c.type_form.ensures in
-    let e = type-some v c.args.first l b c.in-Some.ensures c.if-levels-eq0.false c.requires
-    ∙ ap (λ z. type_m z (l - 1) b v) (sym c.place_of-at.ensures) in
+    let s = started-ok (type_start n) _ l b c.in_ok-start.ensures in
+    let e = type-some v n l b s.0 s.1 c.requires ∙ ap (λ z. type_m z (l - 1) b v) (sym c.place.ensures) in
     record { kept = d.kept; gives = subst (λ o. Gave o c.type_form.result c.type_form.new.self) (sym e) d.gives }
 
 pub type_form-returns-in-Int : goal.type_form-returns-in-Int

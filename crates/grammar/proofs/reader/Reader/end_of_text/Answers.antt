@@ -21,4 +21,4 @@ pub returns-in_default : goal.returns-in_default
 returns-in_default c =
     let p = c.in_ok-next.ensures in
     let e = end-bad (state_of c.args.self.now) c.in_ok-next.next _ p.reads.0 c.in_default.not-End in
-    record { kept = p.kept; gives = rw (e, c.place_of.ensures) refl }
+    record { kept = p.kept; gives = rw (e, c.unexpected.ensures) refl }

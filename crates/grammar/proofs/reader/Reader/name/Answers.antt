@@ -31,4 +31,4 @@ returns-in_default c =
     let s = c.args.self.now in
     let p = c.in_ok-next.ensures in
     let e = name-bad s.words.text.now s.words.at c.in_ok-next.next _ p.reads.0 c.in_default.not-Name in
-    record { kept = p.kept; gives = rw (e, c.place_of.ensures) refl }
+    record { kept = p.kept; gives = rw (e, c.unexpected.ensures) refl }

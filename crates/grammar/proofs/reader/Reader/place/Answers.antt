@@ -12,7 +12,7 @@ returns-then-used-self c =
     record {
       kept = record { same = refl; long = refl; behind = refl };
       gives = rw
-          (le-ltb s.used (min (length s.tree.now) 65535) b) refl;
+          (le-ltb s.used (min (length s.tree.now) 65535) b, c.from.ensures) refl;
     }
 
 pub returns : goal.returns
