@@ -6,7 +6,7 @@ use Rattle.pantry.specs.declared.records.Record.{Record}
 use Rattle.pantry.specs.File.{two_at, place, record_at, records_from, records_of, count_of, header_ok}
 use Rattle.pantry.specs.Format.{two_bytes, four_bytes, record_bytes, records_bytes, file_of, InWidth, Encodes, nth}
 use Rattle.pantry.specs.FileFacts.{few, records_length}
-use Rattle.pantry.proofs.Scans.{exact}
+use Rattle.pantry.proofs.Rows.{exact}
 
 -- ── record k ──
 

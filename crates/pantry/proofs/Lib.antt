@@ -1,4 +1,4 @@
-mod Scans
+mod Rows
 mod Formats
 mod Judging
 mod Serving

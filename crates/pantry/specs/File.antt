@@ -1,5 +1,6 @@
 -- The item file by places: the letters `NUT`, the version, the count, and the records behind them. Assumes nothing.
-use Rattle.std.specs.Prelude.{ℕ, zero, suc, ◌+◌, ◌*◌, Bool, cond, not, ◌&&◌, List, [], ◌∷◌, length, is_some, Some, None, Ok, Err, Option, Result, ◌==◌, nat_le, slice_index}
+use Rattle.std.specs.Prelude.{ℕ, zero, suc, ◌+◌, ◌*◌, Bool, cond, not, ◌&&◌, List, [], ◌∷◌, ◌++◌, length, is_some, Some, None, Ok, Err, Option, Result, ◌==◌, nat_le, slice_index}
+use Rattle.std.specs.List.{find}
 use Rattle.language.specs.Pantry.{max_magnitude}
 use Rattle.pantry.specs.declared.records.Record.{Record}
 use Rattle.pantry.specs.declared.faults.LoadFault.{LoadFault}
@@ -21,6 +22,14 @@ record_at f k = record {
   flag = slice_index f (place k + 6);
 }
 
+-- the record in seven bytes
+abbrev pub record_of : List ℕ → Record
+record_of row = record {
+  item = two_at row 0;
+  kcal = two_at row 2 * 65536 + two_at row 4;
+  flag = slice_index row 6;
+}
+
 -- as many records from record k on
 abbrev pub records_from : List ℕ → ℕ → ℕ → List Record
 records_from f k zero = []
@@ -36,8 +45,7 @@ records_of f = records_from f 0 (count_of f)
 
 -- the first record that has the item
 abbrev pub first_with : ℕ → List Record → Option Record
-first_with n [] = None
-first_with n (r ∷ rs) = cond (r.item == n) (Some r) (first_with n rs)
+first_with n rs = find (λ (r : Record). r.item == n) rs
 
 -- letters, version, count and length
 unfoldable pub header_ok : List ℕ → Bool
@@ -45,16 +53,23 @@ header_ok f =
     nat_le 7 (length f) && slice_index f 0 == 78 && slice_index f 1 == 85 && slice_index f 2 == 84 && two_at f 3 == 1
     && nat_le (count_of f) 1000 && length f == place (count_of f)
 
--- no earlier record has the item of record k, and its figure and its flag are in range
+-- no earlier record has the item of the record, and its figure and its flag are in range
+abbrev pub lawful_after : List Record → Record → Bool
+lawful_after earlier r = not (is_some (first_with r.item earlier)) && nat_le r.kcal max_magnitude && nat_le r.flag 1
+
+-- whether record k is lawful
 abbrev pub record_ok : List ℕ → ℕ → Bool
-record_ok f k =
-    not (is_some (first_with (record_at f k).item (records_from f 0 k)))
-    && nat_le (record_at f k).kcal max_magnitude && nat_le (record_at f k).flag 1
+record_ok f k = lawful_after (records_from f 0 k) (record_at f k)
 
 -- the first unlawful one of as many records from record k on
 abbrev pub unlawful_from : List ℕ → ℕ → ℕ → Option ℕ
 unlawful_from f k zero = None
 unlawful_from f k (suc left) = cond (record_ok f k) (unlawful_from f (k + 1) left) (Some k)
+
+-- the number of the first record that is unlawful behind the earlier ones
+abbrev pub unlawful_in : List Record → List Record → Option ℕ
+unlawful_in earlier [] = None
+unlawful_in earlier (r ∷ rs) = cond (lawful_after earlier r) (unlawful_in (earlier ++ r ∷ []) rs) (Some (length earlier))
 
 -- the number of the first unlawful record
 unfoldable pub unlawful : List ℕ → Option ℕ

@@ -5,7 +5,7 @@ ghost use Rattle.language.specs.Pantry.{in_range};
 pub const MAX_FIGURE: u32 = 2_000_000_000;
 
 // The kind of an entry. A figure or a flag is the same for every argument; by item, it goes by the argument and may be missing.
-#[derive(Clone, Copy)]
+#[derive(Clone, Copy, Debug, PartialEq, Eq)]
 pub enum Kind {
     Figure,
     Flag,
@@ -14,14 +14,14 @@ pub enum Kind {
 }
 
 // What a fetch gives: a figure or a flag.
-#[derive(Clone, Copy)]
+#[derive(Clone, Copy, Debug, PartialEq, Eq)]
 pub enum Answer {
     Number(i32),
     Truth(bool),
 }
 
 // An entry as a pantry lists it.
-#[derive(Clone, Copy)]
+#[derive(Clone, Copy, Debug, PartialEq, Eq)]
 pub struct Entry<'a> {
     pub name: &'a [u8],
     pub kind: Kind,

@@ -17,15 +17,42 @@ pub fn factor_pantry() -> Factors
     Factors
 }
 
+// A nutrient: the entry that gives its energy, and its kcal for each gram.
+#[derive(Clone, Copy)]
+struct Nutrient {
+    name: &'static [u8],
+    factor: u32,
+}
+
+const NUTRIENTS: [Nutrient; 5] = [
+    Nutrient {
+        name: b"fat-kcal",
+        factor: 9,
+    },
+    Nutrient {
+        name: b"carb-kcal",
+        factor: 4,
+    },
+    Nutrient {
+        name: b"protein-kcal",
+        factor: 4,
+    },
+    Nutrient {
+        name: b"alcohol-kcal",
+        factor: 7,
+    },
+    Nutrient {
+        name: b"fibre-kcal",
+        factor: 2,
+    },
+];
+
 // factor times grams, both in tenths
-fn kcal(factor: u8, grams: i32) -> Option<Answer>
+fn kcal(factor: u32, grams: i32) -> Option<Answer>
     ensures { answered result ≡ energy factor grams }
 {
-    if grams < 0 {
-        return None;
-    }
-    let product = u64::from(factor) * u64::from(grams as u32);
-    if product > u64::from(MAX_FIGURE) {
+    let product = u32::try_from(grams).ok()?.checked_mul(factor)?;
+    if product > MAX_FIGURE {
         return None;
     }
     Some(Answer::Number(product as i32))
@@ -37,32 +64,18 @@ impl Pantry for Factors {
     ghost lawful = { λ _. factors_lawful };
 
     fn count(&self) -> usize {
-        5
+        NUTRIENTS.len()
     }
 
     fn entry(&self, i: usize) -> Option<Entry<'_>> {
-        let name: &[u8] = match i {
-            0 => b"fat-kcal",
-            1 => b"carb-kcal",
-            2 => b"protein-kcal",
-            3 => b"alcohol-kcal",
-            4 => b"fibre-kcal",
-            _ => return None,
-        };
+        let nutrient = NUTRIENTS.get(i)?;
         Some(Entry {
-            name,
+            name: nutrient.name,
             kind: Kind::FigureByItem,
         })
     }
 
     fn fetch(&self, i: usize, argument: i32) -> Option<Answer> {
-        match i {
-            0 => kcal(9, argument),
-            1 => kcal(4, argument),
-            2 => kcal(4, argument),
-            3 => kcal(7, argument),
-            4 => kcal(2, argument),
-            _ => None,
-        }
+        kcal(NUTRIENTS.get(i)?.factor, argument)
     }
 }

@@ -2,14 +2,14 @@ ghost use Rattle.std.specs.Prelude.{◌≡◌};
 ghost use Rattle.pantry.specs.Faults.{refusal_of};
 
 // The pantry has no answer of this entry for this argument.
-#[derive(Clone, Copy)]
+#[derive(Clone, Copy, Debug, PartialEq, Eq)]
 pub struct NoAnswer {
     pub entry: u8,
     pub argument: i32,
 }
 
 // Why an item file is refused: it is no item file, or its first unlawful record begins at this place.
-#[derive(Clone, Copy)]
+#[derive(Clone, Copy, Debug, PartialEq, Eq)]
 pub enum LoadFault {
     NoItemFile,
     BadRecord(usize),

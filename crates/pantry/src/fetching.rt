@@ -1,61 +1,63 @@
-ghost use Rattle.std.specs.Prelude.{◌≡◌, true, length, pos};
+ghost use Rattle.std.specs.Prelude.{◌≡◌, length, pos, map};
 ghost use Rattle.language.specs.Pantry.{figure_reply};
 ghost use Rattle.pantry.specs.Meaning.{answered, reply_for};
-ghost use Rattle.pantry.specs.File.{accepted, count_of, records_of};
+ghost use Rattle.pantry.specs.File.{record_of, records_of};
 ghost use Rattle.pantry.specs.Items.{item_pantry, record_for, kcal_in, flag_in};
 ghost use Rattle.pantry.specs.ItemLaws.{items_lawful};
 
 use crate::entries::{Answer, Entry, Kind, in_range};
 use crate::items::Items;
 use crate::pantries::Pantry;
-use crate::records::{Record, find, two_at};
+use crate::records::{Record, Row, find, rows};
 
-fn count_of(file: &[u8]) -> u16
-    requires { accepted file.now ≡ true }
-    ensures { result ≡ count_of file.now }
-{
-    two_at(file, 5)
-}
+const ENTRIES: [Entry; 3] = [
+    Entry {
+        name: b"kcal",
+        kind: Kind::FigureByItem,
+    },
+    Entry {
+        name: b"allergen",
+        kind: Kind::FlagByItem,
+    },
+    Entry {
+        name: b"items",
+        kind: Kind::Figure,
+    },
+];
 
-// the record of the item that is asked for
-fn found(file: &[u8], argument: i32) -> Option<Record>
-    requires { accepted file.now ≡ true }
-    ensures { result ≡ record_for (records_of file.now) argument }
-{
-    if argument < 0 {
-        return None;
+impl Items<'_> {
+    fn rows(&self) -> &[Row]
+        ensures { map record_of result.now ≡ records_of self.now.file.now }
+    {
+        rows(self.file).unwrap()
     }
-    if argument > 65535 {
-        return None;
-    }
-    find(file, argument as u16, usize::from(count_of(file)))
-}
 
-fn kcal_of(file: &[u8], argument: i32) -> Option<Answer>
-    requires { accepted file.now ≡ true }
-    ensures { answered result ≡ kcal_in (record_for (records_of file.now) argument) }
-{
-    match found(file, argument) {
-        Some(record) => Some(Answer::Number(record.kcal as i32)),
-        None => None,
+    // the record of the item that is asked for
+    fn record(&self, argument: i32) -> Option<Record>
+        ensures { result ≡ record_for (records_of self.now.file.now) argument }
+    {
+        find(self.rows(), u32::try_from(argument).ok()?)
     }
-}
 
-fn allergen_of(file: &[u8], argument: i32) -> Option<Answer>
-    requires { accepted file.now ≡ true }
-    ensures { answered result ≡ flag_in (record_for (records_of file.now) argument) }
-{
-    match found(file, argument) {
-        Some(record) => Some(Answer::Truth(record.flag == 1)),
-        None => None,
+    fn kcal(&self, argument: i32) -> Option<Answer>
+        ensures { answered result ≡ kcal_in (record_for (records_of self.now.file.now) argument) }
+    {
+        let record = self.record(argument)?;
+        Some(Answer::Number(record.kcal as i32))
     }
-}
 
-fn items_in(file: &[u8]) -> Answer
-    requires { accepted file.now ≡ true }
-    ensures { reply_for result ≡ figure_reply (pos (length (records_of file.now))) }
-{
-    Answer::Number(i32::from(count_of(file)))
+    fn allergen(&self, argument: i32) -> Option<Answer>
+        ensures { answered result ≡ flag_in (record_for (records_of self.now.file.now) argument) }
+    {
+        self.record(argument)
+            .map(|record| Answer::Truth(record.flag == 1))
+    }
+
+    fn items(&self) -> Answer
+        ensures { reply_for result ≡ figure_reply (pos (length (records_of self.now.file.now))) }
+    {
+        Answer::Number(self.rows().len() as i32)
+    }
 }
 
 impl Pantry for Items<'_> {
@@ -64,25 +66,12 @@ impl Pantry for Items<'_> {
     ghost lawful = { λ s. items_lawful s.file.now s.ok };
 
     fn count(&self) -> usize {
-        3
+        ENTRIES.len()
     }
 
     fn entry(&self, i: usize) -> Option<Entry<'_>> {
-        match i {
-            0 => Some(Entry {
-                name: b"kcal",
-                kind: Kind::FigureByItem,
-            }),
-            1 => Some(Entry {
-                name: b"allergen",
-                kind: Kind::FlagByItem,
-            }),
-            2 => Some(Entry {
-                name: b"items",
-                kind: Kind::Figure,
-            }),
-            _ => None,
-        }
+        let entry: &'static Entry<'static> = ENTRIES.get(i)?;
+        Some(*entry)
     }
 
     fn fetch(&self, i: usize, argument: i32) -> Option<Answer> {
@@ -90,9 +79,9 @@ impl Pantry for Items<'_> {
             return None;
         }
         match i {
-            0 => kcal_of(self.file, argument),
-            1 => allergen_of(self.file, argument),
-            2 => Some(items_in(self.file)),
+            0 => self.kcal(argument),
+            1 => self.allergen(argument),
+            2 => Some(self.items()),
             _ => None,
         }
     }

@@ -1,68 +1,31 @@
-ghost use Rattle.std.specs.Prelude.{◌≡◌, ◌+◌, ◌<◌, true, false, [], length, IfSome, None};
-ghost use Rattle.pantry.specs.File.{header_ok, record_ok, records_of, unlawful, fault, refused, place};
+ghost use Rattle.std.specs.Prelude.{◌≡◌, ◌<◌, [], map, length, IfSome, None};
+ghost use Rattle.pantry.specs.File.{record_of, records_of, lawful_after, unlawful_in, fault, refused};
 ghost use Rattle.pantry.specs.Format.{Judged, OneList, ServesFile, file_of};
 ghost use Rattle.pantry.specs.Items.{item_pantry};
 
 use crate::entries::MAX_FIGURE;
 use crate::faults::LoadFault;
 use crate::items::Items;
-use crate::records::{find, place_of, record_at, two_at};
-
-// letters, version, count and length
-fn header_ok(file: &[u8]) -> bool
-    ensures { result ≡ header_ok file.now }
-{
-    if file.len() < 7 {
-        return false;
-    }
-    if file[0] != b'N' || file[1] != b'U' || file[2] != b'T' {
-        return false;
-    }
-    if two_at(file, 3) != 1 {
-        return false;
-    }
-    let count = usize::from(two_at(file, 5));
-    count <= 1000 && file.len() == place_of(count)
-}
+use crate::records::{Record, Row, find, rows};
 
 // the item is new, and figure and flag are in range
-fn record_ok(file: &[u8], k: usize) -> bool
-    requires { place k + 6 < length file.now }
-    ensures { result ≡ record_ok file.now k }
+fn is_lawful(earlier: &[Row], record: Record) -> bool
+    ensures { result ≡ lawful_after (map record_of earlier.now) «record» }
 {
-    let record = record_at(file, k);
-    if find(file, record.item, k).is_some() {
-        return false;
-    }
-    record.kcal <= MAX_FIGURE && record.flag <= 1
+    find(earlier, u32::from(record.item)).is_none() && record.kcal <= MAX_FIGURE && record.flag <= 1
 }
 
 // the number of the first unlawful record
-fn unlawful_record(file: &[u8]) -> Option<usize>
-    requires { header_ok file.now ≡ true }
-    ensures is { result ≡ unlawful file.now }
-    ensures within { IfSome result (λ k. k < 1000) }
+fn first_unlawful(rows: &[Row]) -> Option<usize>
+    ensures is { result ≡ unlawful_in [] (map record_of rows.now) }
+    ensures within { IfSome result (λ k. k < length rows.now) }
 {
-    let count = usize::from(two_at(file, 5));
-    for k in 0..count {
-        if !record_ok(file, k) {
+    for (k, row) in rows.iter().enumerate() {
+        if !is_lawful(&rows[..k], Record::from(*row)) {
             return Some(k);
         }
     }
     None
-}
-
-// why the file is refused
-fn fault_in(file: &[u8]) -> Option<LoadFault>
-    ensures { result ≡ fault file.now }
-{
-    if !header_ok(file) {
-        return Some(LoadFault::NoItemFile);
-    }
-    match unlawful_record(file) {
-        Some(k) => Some(LoadFault::BadRecord(place_of(k))),
-        None => None,
-    }
 }
 
 // Whether the bytes are a lawful item file, or the first fault in them.
@@ -71,17 +34,11 @@ pub fn load(file: &[u8]) -> Result<(), LoadFault>
     ensures judges { Judged file.now result }
     ensures one_list { OneList file.now }
 {
-    match fault_in(file) {
-        Some(fault) => Err(fault),
+    let rows = rows(file).ok_or(LoadFault::NoItemFile)?;
+    match first_unlawful(rows) {
         None => Ok(()),
+        Some(k) => Err(LoadFault::BadRecord(7 + 7 * k)),
     }
-}
-
-fn over(file: &[u8]) -> Items<'_>
-    requires { fault file.now ≡ None }
-    ensures { result.file.now ≡ file.now }
-{
-    Items { file }
 }
 
 // The pantry over a file that loading accepts.
@@ -90,7 +47,7 @@ pub fn item_pantry(file: &[u8]) -> Items<'_>
     ensures over { result.file.now ≡ file.now }
     ensures serves { ServesFile file.now (item_pantry (records_of result.file.now)) }
 {
-    over(file)
+    Items { file }
 }
 
 // An item file with no records, for where there is none.
@@ -100,5 +57,5 @@ pub const EMPTY_FILE: &[u8; 7] = b"NUT\x00\x01\x00\x00";
 pub fn no_items() -> Items<'static>
     ensures { result.file.now ≡ file_of [] }
 {
-    over(EMPTY_FILE)
+    Items { file: EMPTY_FILE }
 }

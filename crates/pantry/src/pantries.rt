@@ -26,8 +26,7 @@ pub trait Pantry {
 pub fn ask<P: Pantry>(pantry: &P, entry: u8, argument: i32) -> Result<Answer, NoAnswer>
     ensures { Asked (P.meaning pantry.now) «entry» argument result }
 {
-    match pantry.fetch(usize::from(entry), argument) {
-        Some(answer) => Ok(answer),
-        None => Err(NoAnswer { entry, argument }),
-    }
+    pantry
+        .fetch(usize::from(entry), argument)
+        .ok_or(NoAnswer { entry, argument })
 }

@@ -1,52 +1,50 @@
-ghost use Rattle.std.specs.Prelude.{◌≡◌, ◌+◌, ◌^◌, ◌<◌, ◌≤◌, length};
-ghost use Rattle.pantry.specs.File.{two_at, record_at, records_from, first_with, place};
+ghost use Rattle.std.specs.Prelude.{◌≡◌, true, false, map, MatchOption};
+ghost use Rattle.pantry.specs.File.{record_of, records_of, first_with, header_ok};
 
 // A record of an item file, its numbers as they stand there.
-#[derive(Clone, Copy)]
+#[derive(Clone, Copy, Debug, PartialEq, Eq)]
 pub struct Record {
     pub item: u16,
     pub kcal: u32,
     pub flag: u8,
 }
 
-// where record k begins
-pub(crate) fn place_of(k: usize) -> usize
-    requires { place k < 2 ^ 64 }
-    ensures { result ≡ place k }
-{
-    7 + 7 * k
-}
+// The bytes of a record.
+pub(crate) type Row = [u8; 7];
 
-// the number in the two bytes there, high byte first
-pub(crate) fn two_at(file: &[u8], at: usize) -> u16
-    requires { at + 1 < length file.now }
-    ensures { result ≡ two_at file.now at }
-{
-    u16::from(file[at]) * 256 + u16::from(file[at + 1])
-}
+impl From<Row> for Record {
+    ghost from_gives = { λ row r. r ≡ record_of row };
 
-pub(crate) fn record_at(file: &[u8], k: usize) -> Record
-    requires { place k + 6 < length file.now }
-    ensures { result ≡ record_at file.now k }
-{
-    let at = place_of(k);
-    Record {
-        item: two_at(file, at),
-        kcal: u32::from(two_at(file, at + 2)) * 65536 + u32::from(two_at(file, at + 4)),
-        flag: file[at + 6],
-    }
-}
-
-// the first of the first `count` records that has the item
-pub(crate) fn find(file: &[u8], item: u16, count: usize) -> Option<Record>
-    requires { place count ≤ length file.now }
-    ensures { result ≡ first_with item (records_from file.now 0 count) }
-{
-    for k in 0..count {
-        let record = record_at(file, k);
-        if record.item == item {
-            return Some(record);
+    fn from(row: Row) -> Record {
+        let [i0, i1, k0, k1, k2, k3, flag] = row;
+        Record {
+            item: u16::from_be_bytes([i0, i1]),
+            kcal: u32::from_be_bytes([k0, k1, k2, k3]),
+            flag,
         }
     }
-    None
+}
+
+// the records, if letters, version, count and length are in order
+pub(crate) fn rows(file: &[u8]) -> Option<&[Row]>
+    ensures { MatchOption result (header_ok file.now ≡ false) (λ rows. (header_ok file.now ≡ true) × (map record_of rows.now ≡ records_of file.now)) }
+{
+    let [b'N', b'U', b'T', 0, 1, high, low, body @ ..] = file else {
+        return None;
+    };
+    let count = usize::from(u16::from_be_bytes([*high, *low]));
+    let (rows, rest) = body.as_chunks::<7>();
+    if count > 1000 || rows.len() != count || !rest.is_empty() {
+        return None;
+    }
+    Some(rows)
+}
+
+// the first record that has the item
+pub(crate) fn find(rows: &[Row], item: u32) -> Option<Record>
+    ensures { result ≡ first_with item (map record_of rows.now) }
+{
+    rows.iter()
+        .map(|row| Record::from(*row))
+        .find(|record| u32::from(record.item) == item)
 }

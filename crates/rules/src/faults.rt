@@ -2,7 +2,7 @@ ghost use Rattle.std.specs.Prelude.{◌≡◌};
 ghost use Rattle.rules.specs.Faults.{number_of, place_of};
 
 // The one refusal that a check gives, with its place in the text.
-#[derive(Clone, Copy)]
+#[derive(Clone, Copy, Debug, PartialEq, Eq)]
 pub enum CheckFault {
     Repeated(u16),
     UnknownValue(u16),
@@ -38,16 +38,16 @@ impl CheckFault {
         ensures { result ≡ place_of self }
     {
         match self {
-            CheckFault::Repeated(at) => at,
-            CheckFault::UnknownValue(at) => at,
-            CheckFault::UnknownType(at) => at,
-            CheckFault::Unwanted(at) => at,
-            CheckFault::NoArrow(at) => at,
-            CheckFault::Missing(at) => at,
-            CheckFault::Mismatch(at) => at,
-            CheckFault::TooDeep(at) => at,
-            CheckFault::TypesFull(at) => at,
-            CheckFault::ScopeFull(at) => at,
+            CheckFault::Repeated(at)
+            | CheckFault::UnknownValue(at)
+            | CheckFault::UnknownType(at)
+            | CheckFault::Unwanted(at)
+            | CheckFault::NoArrow(at)
+            | CheckFault::Missing(at)
+            | CheckFault::Mismatch(at)
+            | CheckFault::TooDeep(at)
+            | CheckFault::TypesFull(at)
+            | CheckFault::ScopeFull(at) => at,
         }
     }
 }
