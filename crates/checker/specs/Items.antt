@@ -17,7 +17,14 @@ use Rattle.typing.specs.declared.types.Slot.TheVariants as slot
 use Rattle.typing.specs.declared.types.Scope.{Scope}
 use Rattle.typing.specs.declared.types.Interface.{Interface}
 use Rattle.typing.specs.declared.types.Given.{Given}
+use Rattle.checker.specs.declared.items.Sort.{Sort}
+use Rattle.checker.specs.declared.items.Sort.TheVariants as sort
 use Rattle.typing.specs.Tables.{State, tables, hide_n, enter_type_n, nearest_n, interface_n, expand_n, type_n}
+
+-- a type is told by true
+abbrev pub is_type : Sort → Bool
+is_type sort.«Type» = true
+is_type sort.Value = false
 
 -- whether a place of the scope table defines the name, as a type or as a value
 abbrev pub defines : List ℕ → Bool → Name → Slot → Bool
@@ -104,6 +111,10 @@ module _ (w : Given) where
   match_item body (item.TypeIs at x t) k = give k
   match_item body (item.ValueIs x p) k = give k
   match_item body (item.Module at x) k = give k
+
+-- what is done at each item
+abbrev pub Act : Type 0 → Type 0
+Act A = Given → Item → A → State → Out State A
 
 -- only items count
 abbrev pub on_item : {A : Type 0} → (Item → A → State → Out State A) → Node → A → State → Out State A

@@ -2,7 +2,7 @@ ghost use Rattle.std.specs.Prelude.{◌≡◌, ℕ, ◌+◌, ◌<◌, ◌≤◌}
 ghost use Rattle.typing.specs.Tables.{Kept, Gives};
 ghost use Rattle.checker.specs.Items.{AllHold, body_n, is_new, module_n};
 
-use crate::items::{declare_all, define_all, match_all};
+use crate::items::{Declaring, Defining, Matching, all_items};
 use grammar::tree::Node;
 use language::spans::{Span, spelled};
 use rules::faults::CheckFault;
@@ -34,17 +34,9 @@ fn definitions(tables: &mut Tables, scope: &mut Scope, nodes: &[Node]) -> Result
     ensures gives { Gives (body_n tables.old.given nodes.now scope.old.used) result tables.old tables.new }
 {
     let first = scope.used;
-    let inner = define_all(
-        tables,
-        Scope {
-            used: first,
-            types: 0,
-            values: 0,
-        },
-        nodes,
-    )?;
+    let inner = all_items(&Defining, tables, Scope::empty_at(first), nodes)?;
     *scope = inner;
-    let _ = match_all(tables, inner, first, nodes)?;
+    let _ = all_items(&Matching { body: inner }, tables, first, nodes)?;
     Ok(())
 }
 
@@ -64,13 +56,7 @@ fn body(tables: &mut Tables, scope: &mut Scope, nodes: &[Node]) -> Result<(), Ch
 fn is_new(tables: &Tables, m: Span) -> bool
     ensures { result ≡ is_new tables.now.given m }
 {
-    if is_pantry(spelled(tables.given.text, m)) {
-        return false;
-    }
-    match tables.interface(m) {
-        None => true,
-        Some(_) => false,
-    }
+    !is_pantry(spelled(tables.given.text, m)) && tables.interface(m).is_none()
 }
 
 // A module: its name, its interface, which stays in scope, and its body, which does not.
@@ -82,14 +68,10 @@ pub fn module(tables: &mut Tables, used: u16, m: Span, nodes: &[Node]) -> Result
     if !is_new(tables, m) {
         return Err(CheckFault::Repeated(m.place));
     }
-    let mut scope = declare_all(
+    let mut scope = all_items(
+        &Declaring { module: m },
         tables,
-        Scope {
-            used,
-            types: 0,
-            values: 0,
-        },
-        m,
+        Scope::empty_at(used),
         nodes,
     )?;
     body(tables, &mut scope, nodes)?;

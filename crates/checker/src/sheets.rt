@@ -217,15 +217,7 @@ fn run_closing<'x>(
         count,
         slots,
     };
-    let ty = tables.type_of(
-        Scope {
-            used,
-            types: 0,
-            values: 0,
-        },
-        close,
-        LEVELS,
-    )?;
+    let ty = tables.type_of(Scope::empty_at(used), close, LEVELS)?;
     Ok((ty, tables.count))
 }
 

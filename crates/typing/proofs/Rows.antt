@@ -89,8 +89,8 @@ module _ (text : List ℕ) where
       ⊎_elim (λ (h : same_type u t ≡ true). inr (0, rw (s, h) (ap Some (let z : k ≡ k + 0 = omega arith in z)), rw h, ap Some (same-type-is u t h)))
       (λ (h : same_type u t ≡ false). ⊎_elim
       (λ n. inl (rw (s, h) n.0, rw h n.1))
-      (λ y. inr (suc y.0, rw (s, h) (y.1 ∙ ap Some (let z : suc k + y.0 ≡ k + suc y.0 = omega arith in z)), rw h y.2, y.3))
-      (found x t (suc k) same rs))
+      (λ y. inr (suc y.0, rw (s, h) (y.1 ∙ ap Some (let z : k + 1 + y.0 ≡ k + suc y.0 = omega arith in z)), rw h y.2, y.3))
+      (found x t (k + 1) same rs))
       (cases_Bool (same_type u t))
 
 nth-take : {A : Type 0} (n : ℕ) (xs : List A) (i : ℕ) → i < n → slice_get (take n xs) i ≡ slice_get xs i

@@ -2,7 +2,8 @@
 use Rattle.std.proofs.Common.{◌≡◌, ℕ, zero, suc, ◌+◌, ◌<◌, ◌≤◌, min, Bool, true, false, cond, ltb, List, [], ◌∷◌, length, take, set, Some, None, Option, sym, refl, ap, ◌∙◌, subst, add-one, arith, length-set}
 use mathlib.Core.Option.{Option as Maybe, none, some}
 use lib.ListN.{get_elem?}
-use Rattle.std.specs.List.{slice_get}
+use Rattle.std.specs.List.{slice_get, find}
+use Rattle.std.specs.Option.{option_map}
 use Rattle.std.proofs.lemmas.List.{take-set}
 use Rattle.std.proofs.lemmas.Bool.{ltb-true}
 use Rattle.words.specs.Names.{Name, same_name}
@@ -29,7 +30,7 @@ use Rattle.typing.specs.declared.types.Given.{Given}
 use Rattle.typing.specs.declared.types.TypeEntry.{TypeEntry}
 use Rattle.typing.specs.Slots.{held_slot}
 use Rattle.typing.specs.Tables as table
-use Rattle.typing.specs.Tables.{State, binding, bound, enter_n, enter_type_n, nearest_n, or_else, interface_n, in_interface, declared_n, entry_n, taken_n}
+use Rattle.typing.specs.Tables.{State, binding, bound, enter_n, enter_type_n, nearest_n, interface_n, in_interface, declared_n, entry_n, taken_n}
 use Rattle.typing.specs.Stands.{Stands, Holding, no_name, type_name, value_name, Declares, declares, AllDeclare, none_declares, one_declares, Stocks, stocks_none, stocks_one, Scoped}
 use Rattle.typing.proofs.Alike.{More, Next, Alike, alike-good, want-within, Both, neither, each}
 
@@ -144,7 +145,7 @@ module _ (text : List ℕ) where
       AllDeclare text ts ss n is js → BothDeclare ts ss n (interface_n text m is) (lookup js m)
   interface-both ts ss n m none_declares = neither-declares
   interface-both ts ss n {is = i ∷ is} {js = bind x k ∷ js} m (one_declares (declares {ms = ms} q l h) hs) =
-      rw q (elim (same_name x m) as (λ c. BothDeclare ts ss n (or_else c i (interface_n text m is)) (cond c (some (interface_of ms)) (lookup js m)))
+      rw q (elim (same_name x m) as (λ c. BothDeclare ts ss n (cond c (Some i) (interface_n text m is)) (cond c (some (interface_of ms)) (lookup js m)))
       [ true ↦ both-declare l h | false ↦ interface-both ts ss n m hs ])
 
   in-types : (s : State) (ts : List ExpandedType) (n : ℕ) (x : Span) {o : Option Interface} {p : Maybe typing.Interface} → n ≤ 65535 →
@@ -172,7 +173,8 @@ stocks-kept m (stocks_one e q h) = stocks_one e (m _ _ q) (stocks-kept m h)
 entry-both : {ts : List ExpandedType} {es : List Known} {c : Context} (x : Name) → Stocks ts es c → Both (Told ts) (entry_n x es) (option_of (lookup c x))
 entry-both x stocks_none = neither
 entry-both {ts} x (stocks_one {e = e} {x = y} {a = a} {es = es} {c = c} p q h) =
-    rw p (elim (same_name y x) as (λ b. Both (Told ts) (or_else b e.of (entry_n x es)) (option_of (cond b (some a) (lookup c x))))
+    rw (← p) (elim (same_name e.name.now x) as (λ b. Both (Told ts) (option_map (λ (k : Known). k.of) (cond b (Some e) (find (λ k. same_name k.name.now x) es)))
+    (option_of (cond b (some a) (lookup c x))))
     [ true ↦ each q | false ↦ entry-both x h ])
 
 module _ (w : Given) (tp sp : ℕ) (base : List TypeEntry) (first : ℕ) where

@@ -1,6 +1,7 @@
 -- The check as the tables keep it: a type is told by its number, a name by its span, what is in scope by links into the scope table.
-use Rattle.std.specs.Prelude.{◌≡◌, ℕ, zero, suc, ◌+◌, min, max, Bool, true, false, cond, ◌&&◌, List, [], ◌∷◌, length, take, is_some, Some, None, Ok, Err, Option, Result, ◌==◌, nat_eq, nat_lt, slice_set}
-use Rattle.std.specs.List.{slice_get}
+use Rattle.std.specs.Prelude.{◌≡◌, ℕ, zero, suc, ◌+◌, min, max, Bool, true, false, cond, ◌&&◌, List, length, take, is_some, Some, None, Ok, Err, Option, Result, ◌==◌, nat_eq, nat_lt, slice_set}
+use Rattle.std.specs.List.{slice_get, find, position_from}
+use Rattle.std.specs.Option.{option_map}
 use Rattle.std.specs.Str.{bytes_eq}
 use Rattle.language.specs.declared.spans.Span.{Span}
 use Rattle.language.specs.declared.bindings.Binding.{Binding}
@@ -16,7 +17,7 @@ use Rattle.grammar.specs.declared.tree.ExpNode.{ExpNode}
 use Rattle.grammar.specs.declared.tree.ExpNode.TheVariants as ex
 use Rattle.grammar.specs.declared.tree.Node.{Node}
 use Rattle.grammar.specs.declared.tree.Node.TheVariants as node
-use Rattle.grammar.specs.Table.{type_at, exp_at}
+use Rattle.grammar.specs.Table.{type_at, exp_of, exp_at}
 use Rattle.rules.specs.declared.faults.CheckFault.{CheckFault}
 use Rattle.rules.specs.declared.faults.CheckFault.TheVariants.{TooDeep, TypesFull, ScopeFull, Unwanted}
 use Rattle.rules.specs.Forms.{Out, bad, good, want, give, ◌>>=◌, ◌>>◌, Keeping, named_t, qualified_t, arrow_t, variable_f, qualified_f, is_zero_f, binary_f, apply_f, proc_f, let_f, conditional_f, body_f, letrec_f}
@@ -87,14 +88,9 @@ alike text entry.Bool y = false
 alike text (entry.Hidden m t) y = is_hidden text m t y
 alike text (entry.Arrow a b d) y = is_arrow a b y
 
-abbrev pub here : Bool → ℕ → Option ℕ → Option ℕ
-here true k o = Some k
-here false k o = o
-
 -- where the arrow or hidden type of an entry stands in the list, whose first place is k
 abbrev pub type_place : List ℕ → TypeEntry → ℕ → List TypeEntry → Option ℕ
-type_place text x k [] = None
-type_place text x k (y ∷ ys) = here (alike text x y) k (type_place text x (suc k) ys)
+type_place text x = position_from (alike text x)
 
 -- one type more, which stands at the next place
 unfoldable pub adding : (at : ℕ) → TypeEntry → State → Out State ℕ
@@ -149,14 +145,9 @@ nearest_n text link x s = option_of (nearest_in (bindings_in held_slot text s.sl
 
 -- WHAT IS TAKEN FROM ELSEWHERE
 
-abbrev pub or_else : {A : Type 0} → Bool → A → Option A → Option A
-or_else true a o = Some a
-or_else false a o = o
-
 -- the first interface of a module of that name
 abbrev pub interface_n : List ℕ → Name → List Interface → Option Interface
-interface_n text m [] = None
-interface_n text m (i ∷ is) = or_else (same_name (spelled_in text i.name) m) i (interface_n text m is)
+interface_n text m = find (λ i. same_name (spelled_in text i.name) m)
 
 abbrev pub types_of : Interface → ℕ
 types_of i = i.types
@@ -174,8 +165,7 @@ declared_n text is start m x s = in_interface text start x s (interface_n text (
 
 -- the type number of the pantry's first entry of that name
 abbrev pub entry_n : Name → List Known → Option ℕ
-entry_n x [] = None
-entry_n x (e ∷ es) = or_else (same_name e.name.now x) e.of (entry_n x es)
+entry_n x es = option_map (λ e. e.of) (find (λ e. same_name e.name.now x) es)
 
 -- the type number of `from m take x`
 unfoldable pub taken_n : Given → Span → Span → State → Option ℕ
@@ -279,6 +269,20 @@ form_e w type part (ex.If at i j k) g = conditional_f (tables w) (part i g) (pla
 form_e w type part (ex.Letrec at u f x t b k) g = letrec_f (tables w) at f x (type u) (type t) (part b) (placed w b) (part k) g
 form_e w type part (ex.Binary at o j k) g = binary_f (tables w) (result_n o) (part j g) (placed w j) (part k g) (placed w k)
 
+-- is it a form that puts a name in scope?
+abbrev pub binds : ExpNode → Bool
+binds (ex.Number at v) = false
+binds (ex.Boolean at b) = false
+binds (ex.Variable x) = false
+binds (ex.From at m x) = false
+binds (ex.IsZero at j) = false
+binds (ex.Apply at j k) = false
+binds (ex.Proc at x t b) = true
+binds (ex.Let at x j k) = true
+binds (ex.If at i j k) = false
+binds (ex.Letrec at u f x t b k) = true
+binds (ex.Binary at o j k) = false
+
 abbrev pub on_exp : (ExpNode → Check) → Option Node → Check
 on_exp f None g = other g
 on_exp f (Some node.Blank) g = other g
@@ -317,6 +321,9 @@ module _ (w : Given) (levels : ℕ) where
   abbrev pub body_n : (at : ℕ) → Span → (a b p : ℕ) → Scope → State → Out State Unit
   body_n at x a b p g = body_f (tables w) at x a b (typed p) (placed w p) g
 
+  abbrev pub form_n : ExpNode → Check
+  form_n = form_e w (expand_n w levels) (type_n w levels)
+
   abbrev pub letrec_n : (at : ℕ) → Span → Span → (u t p q : ℕ) → Check
   letrec_n at f x u t p q g = letrec_f (tables w) at f x (expand_n w levels u) (expand_n w levels t) (typed p) (placed w p) (typed q) g
 
@@ -353,3 +360,7 @@ HasType w levels i = is_some (type_at levels w.text.now w.tree.now i) ≡ true
 -- the place i of the tree stands for an expression of at most so many levels
 abbrev pub HasExp : Given → ℕ → ℕ → Type 0
 HasExp w levels i = is_some (exp_at levels w.text.now w.tree.now i) ≡ true
+
+-- the parts of an expression's node stand for parts of at most so many levels
+abbrev pub HasParts : Given → ℕ → ExpNode → Type 0
+HasParts w levels n = is_some (exp_of w.text.now (type_at levels w.text.now w.tree.now) (exp_at levels w.text.now w.tree.now) n) ≡ true

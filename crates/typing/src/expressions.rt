@@ -1,9 +1,10 @@
-ghost use Rattle.std.specs.Prelude.{◌≡◌, ℕ, ◌+◌, ◌-◌, ◌<◌, ◌≤◌, true, is_some};
+ghost use Rattle.std.specs.Prelude.{◌≡◌, ℕ, ◌+◌, ◌-◌, ◌<◌, ◌≤◌, true, is_some, cond};
 ghost use Rattle.grammar.specs.Table.{type_of, type_at, exp_of, exp_at};
 ghost use Rattle.typing.specs.Tables.{place_of, placed, form_t, expand_n, form_e, type_n, result_n, Kept, Gives, HasType, HasExp};
-ghost use Rattle.typing.specs.Tables.{is_zero_n, binary_n, apply_n, proc_n, let_n, conditional_n, body_n, letrec_n};
+ghost use Rattle.rules.specs.declared.faults.CheckFault.TheVariants.{Unwanted};
+ghost use Rattle.typing.specs.Tables.{is_zero_n, binary_n, apply_n, proc_n, let_n, conditional_n, body_n, letrec_n, binds as is_binder, form_n, HasParts};
 
-use crate::tables::{BOOL, INT, Tables, same, sides};
+use crate::tables::{BOOL, INT, Tables};
 use crate::types::Scope;
 use grammar::tree::{ExpNode, Node, Operator, TypeNode};
 use language::spans::Span;
@@ -17,8 +18,7 @@ impl Tables<'_, '_, '_> {
         ensures is { type_at levels self.now.given.text.now self.now.given.tree.now i ≡ type_of self.now.given.text.now (type_at (levels - 1) self.now.given.text.now self.now.given.tree.now) result }
         ensures step { expand_n self.now.given levels i ≡ form_t self.now.given (expand_n self.now.given (levels - 1)) result }
     {
-        let node = self.given.tree[i as usize];
-        let Node::Type(written) = node else {
+        let Node::Type(written) = self.given.tree[i as usize] else {
             unreachable()
         };
         written
@@ -31,27 +31,31 @@ impl Tables<'_, '_, '_> {
         ensures is { exp_at levels self.now.given.text.now self.now.given.tree.now i ≡ exp_of self.now.given.text.now (type_at (levels - 1) self.now.given.text.now self.now.given.tree.now) (exp_at (levels - 1) self.now.given.text.now self.now.given.tree.now) result }
         ensures step { type_n self.now.given levels i ≡ form_e self.now.given (expand_n self.now.given (levels - 1)) (type_n self.now.given (levels - 1)) result }
     {
-        let node = self.given.tree[i as usize];
-        let Node::Expression(expression) = node else {
+        let Node::Expression(expression) = self.given.tree[i as usize] else {
             unreachable()
         };
         expression
     }
 
     // Where the expression at `i` stands in the text.
+    #[tactic(auto, unfolding(crate::specs::Tables::placed))]
     fn place(&self, i: u16) -> u16
         ensures { result ≡ placed self.now.given i }
     {
-        let k = i as usize;
-        if k >= self.given.tree.len() {
-            return 0;
+        match self.given.tree.get(usize::from(i)) {
+            Some(Node::Expression(expression)) => place_of(*expression),
+            _ => 0,
         }
-        let node = self.given.tree[k];
-        match node {
-            Node::Blank => 0,
-            Node::Type(_) => 0,
-            Node::Expression(expression) => place_of(expression),
-            Node::Item(_) => 0,
+    }
+
+    // The wish for a type that the expression at `i` is to have, which it has or has not.
+    fn want(&self, has: bool, i: u16) -> Result<(), CheckFault>
+        ensures { result ≡ cond has (Ok tt) (Err (Unwanted (placed self.now.given i))) }
+    {
+        if has {
+            Ok(())
+        } else {
+            Err(CheckFault::Unwanted(self.place(i)))
         }
     }
 
@@ -65,16 +69,12 @@ impl Tables<'_, '_, '_> {
             TypeNode::Int { .. } => Ok(INT),
             TypeNode::Bool { .. } => Ok(BOOL),
             TypeNode::Named { name } => {
-                let Some(ty) = self.look(scope.types, name) else {
-                    return Err(CheckFault::UnknownType(name.place));
-                };
-                Ok(ty)
+                self.look(scope.types, name)
+                    .ok_or(CheckFault::UnknownType(name.place))
             }
             TypeNode::From { at, module, name } => {
-                let Some(ty) = self.take_type(module, name) else {
-                    return Err(CheckFault::UnknownType(at));
-                };
-                Ok(ty)
+                self.take_type(module, name)
+                    .ok_or(CheckFault::UnknownType(at))
             }
             TypeNode::Arrow { at, from, to } => {
                 let a = self.expand(scope, from, levels - 1)?;
@@ -86,15 +86,13 @@ impl Tables<'_, '_, '_> {
 
     // `zero?`.
     #[cycle(expressions)]
-    fn is_zero(&mut self, scope: Scope, p: u16, levels: u8) -> Result<u16, CheckFault>
-        requires { HasExp self.old.given levels p }
+    fn is_zero(&mut self, scope: Scope, part: u16, levels: u8) -> Result<u16, CheckFault>
+        requires { HasExp self.old.given levels part }
         ensures kept { Kept self.old self.new }
-        ensures gives { Gives (is_zero_n self.old.given levels p scope) result self.old self.new }
+        ensures gives { Gives (is_zero_n self.old.given levels part scope) result self.old self.new }
     {
-        let a = self.type_of(scope, p, levels)?;
-        if !same(a, INT) {
-            return Err(CheckFault::Unwanted(self.place(p)));
-        }
+        let a = self.type_of(scope, part, levels)?;
+        self.want(a == INT, part)?;
         Ok(BOOL)
     }
 
@@ -104,42 +102,43 @@ impl Tables<'_, '_, '_> {
         &mut self,
         scope: Scope,
         op: Operator,
-        p: u16,
-        q: u16,
+        left: u16,
+        right: u16,
         levels: u8,
     ) -> Result<u16, CheckFault>
-        requires has_exp { HasExp self.old.given levels p }
-        requires has_exp_2 { HasExp self.old.given levels q }
+        requires has_exp { HasExp self.old.given levels left }
+        requires has_exp_2 { HasExp self.old.given levels right }
         ensures kept { Kept self.old self.new }
-        ensures gives { Gives (binary_n self.old.given levels op p q scope) result self.old self.new }
+        ensures gives { Gives (binary_n self.old.given levels op left right scope) result self.old self.new }
     {
-        let a = self.type_of(scope, p, levels)?;
-        let b = self.type_of(scope, q, levels)?;
-        if !same(a, INT) {
-            return Err(CheckFault::Unwanted(self.place(p)));
-        }
-        if !same(b, INT) {
-            return Err(CheckFault::Unwanted(self.place(q)));
-        }
+        let a = self.type_of(scope, left, levels)?;
+        let b = self.type_of(scope, right, levels)?;
+        self.want(a == INT, left)?;
+        self.want(b == INT, right)?;
         Ok(result_of(op))
     }
 
     // An application.
     #[cycle(expressions)]
-    fn apply(&mut self, scope: Scope, p: u16, q: u16, levels: u8) -> Result<u16, CheckFault>
-        requires has_exp { HasExp self.old.given levels p }
-        requires has_exp_2 { HasExp self.old.given levels q }
+    fn apply(
+        &mut self,
+        scope: Scope,
+        operator: u16,
+        operand: u16,
+        levels: u8,
+    ) -> Result<u16, CheckFault>
+        requires has_exp { HasExp self.old.given levels operator }
+        requires has_exp_2 { HasExp self.old.given levels operand }
         ensures kept { Kept self.old self.new }
-        ensures gives { Gives (apply_n self.old.given levels p q scope) result self.old self.new }
+        ensures gives { Gives (apply_n self.old.given levels operator operand scope) result self.old self.new }
     {
-        let f = self.type_of(scope, p, levels)?;
-        let a = self.type_of(scope, q, levels)?;
-        let Some((from, to)) = sides(self.entry(f)) else {
-            return Err(CheckFault::NoArrow(self.place(p)));
-        };
-        if !same(a, from) {
-            return Err(CheckFault::Unwanted(self.place(q)));
-        }
+        let f = self.type_of(scope, operator, levels)?;
+        let a = self.type_of(scope, operand, levels)?;
+        let (from, to) = self
+            .entry(f)
+            .sides()
+            .ok_or(CheckFault::NoArrow(self.place(operator)))?;
+        self.want(a == from, operand)?;
         Ok(to)
     }
 
@@ -149,19 +148,19 @@ impl Tables<'_, '_, '_> {
         &mut self,
         scope: Scope,
         at: u16,
-        x: Span,
-        t: u16,
-        p: u16,
+        parameter: Span,
+        of: u16,
+        body: u16,
         levels: u8,
     ) -> Result<u16, CheckFault>
-        requires has_type { HasType self.old.given levels t }
-        requires has_exp { HasExp self.old.given levels p }
+        requires has_type { HasType self.old.given levels of }
+        requires has_exp { HasExp self.old.given levels body }
         ensures kept { Kept self.old self.new }
-        ensures gives { Gives (proc_n self.old.given levels at x t p scope) result self.old self.new }
+        ensures gives { Gives (proc_n self.old.given levels at parameter of body scope) result self.old self.new }
     {
-        let a = self.expand(scope, t, levels)?;
-        let inner = self.enter(at, scope, x, a)?;
-        let b = self.type_of(inner, p, levels)?;
+        let a = self.expand(scope, of, levels)?;
+        let inner = self.enter(at, scope, parameter, a)?;
+        let b = self.type_of(inner, body, levels)?;
         self.arrow(at, a, b)
     }
 
@@ -171,19 +170,19 @@ impl Tables<'_, '_, '_> {
         &mut self,
         scope: Scope,
         at: u16,
-        x: Span,
-        p: u16,
-        q: u16,
+        name: Span,
+        bound: u16,
+        body: u16,
         levels: u8,
     ) -> Result<u16, CheckFault>
-        requires has_exp { HasExp self.old.given levels p }
-        requires has_exp_2 { HasExp self.old.given levels q }
+        requires has_exp { HasExp self.old.given levels bound }
+        requires has_exp_2 { HasExp self.old.given levels body }
         ensures kept { Kept self.old self.new }
-        ensures gives { Gives (let_n self.old.given levels at x p q scope) result self.old self.new }
+        ensures gives { Gives (let_n self.old.given levels at name bound body scope) result self.old self.new }
     {
-        let a = self.type_of(scope, p, levels)?;
-        let inner = self.enter(at, scope, x, a)?;
-        self.type_of(inner, q, levels)
+        let a = self.type_of(scope, bound, levels)?;
+        let inner = self.enter(at, scope, name, a)?;
+        self.type_of(inner, body, levels)
     }
 
     // `if`.
@@ -191,26 +190,22 @@ impl Tables<'_, '_, '_> {
     fn conditional(
         &mut self,
         scope: Scope,
-        p: u16,
-        q: u16,
-        e: u16,
+        test: u16,
+        consequent: u16,
+        alternative: u16,
         levels: u8,
     ) -> Result<u16, CheckFault>
-        requires has_exp { HasExp self.old.given levels p }
-        requires has_exp_2 { HasExp self.old.given levels q }
-        requires has_exp_3 { HasExp self.old.given levels e }
+        requires has_exp { HasExp self.old.given levels test }
+        requires has_exp_2 { HasExp self.old.given levels consequent }
+        requires has_exp_3 { HasExp self.old.given levels alternative }
         ensures kept { Kept self.old self.new }
-        ensures gives { Gives (conditional_n self.old.given levels p q e scope) result self.old self.new }
+        ensures gives { Gives (conditional_n self.old.given levels test consequent alternative scope) result self.old self.new }
     {
-        let a = self.type_of(scope, p, levels)?;
-        let b = self.type_of(scope, q, levels)?;
-        let c = self.type_of(scope, e, levels)?;
-        if !same(a, BOOL) {
-            return Err(CheckFault::Unwanted(self.place(p)));
-        }
-        if !same(c, b) {
-            return Err(CheckFault::Unwanted(self.place(e)));
-        }
+        let a = self.type_of(scope, test, levels)?;
+        let b = self.type_of(scope, consequent, levels)?;
+        let c = self.type_of(scope, alternative, levels)?;
+        self.want(a == BOOL, test)?;
+        self.want(c == b, alternative)?;
         Ok(b)
     }
 
@@ -220,22 +215,19 @@ impl Tables<'_, '_, '_> {
         &mut self,
         scope: Scope,
         at: u16,
-        x: Span,
+        parameter: Span,
         a: u16,
         b: u16,
-        p: u16,
+        body: u16,
         levels: u8,
     ) -> Result<(), CheckFault>
-        requires { HasExp self.old.given levels p }
+        requires { HasExp self.old.given levels body }
         ensures kept { Kept self.old self.new }
-        ensures gives { Gives (body_n self.old.given levels at x a b p scope) result self.old self.new }
+        ensures gives { Gives (body_n self.old.given levels at parameter a b body scope) result self.old self.new }
     {
-        let inner = self.enter(at, scope, x, a)?;
-        let c = self.type_of(inner, p, levels)?;
-        if !same(c, b) {
-            return Err(CheckFault::Unwanted(self.place(p)));
-        }
-        Ok(())
+        let inner = self.enter(at, scope, parameter, a)?;
+        let c = self.type_of(inner, body, levels)?;
+        self.want(c == b, body)
     }
 
     // `letrec`.
@@ -244,27 +236,61 @@ impl Tables<'_, '_, '_> {
         &mut self,
         scope: Scope,
         at: u16,
-        f: Span,
-        x: Span,
-        u: u16,
-        t: u16,
-        p: u16,
-        q: u16,
+        name: Span,
+        parameter: Span,
+        returns: u16,
+        of: u16,
+        body: u16,
+        rest: u16,
         levels: u8,
     ) -> Result<u16, CheckFault>
-        requires has_type { HasType self.old.given levels u }
-        requires has_type_2 { HasType self.old.given levels t }
-        requires has_exp { HasExp self.old.given levels p }
-        requires has_exp_2 { HasExp self.old.given levels q }
+        requires has_type { HasType self.old.given levels returns }
+        requires has_type_2 { HasType self.old.given levels of }
+        requires has_exp { HasExp self.old.given levels body }
+        requires has_exp_2 { HasExp self.old.given levels rest }
         ensures kept { Kept self.old self.new }
-        ensures gives { Gives (letrec_n self.old.given levels at f x u t p q scope) result self.old self.new }
+        ensures gives { Gives (letrec_n self.old.given levels at name parameter returns of body rest scope) result self.old self.new }
     {
-        let b = self.expand(scope, u, levels)?;
-        let a = self.expand(scope, t, levels)?;
+        let b = self.expand(scope, returns, levels)?;
+        let a = self.expand(scope, of, levels)?;
         let ab = self.arrow(at, a, b)?;
-        let outer = self.enter(at, scope, f, ab)?;
-        self.body(outer, at, x, a, b, p, levels)?;
-        self.type_of(outer, q, levels)
+        let outer = self.enter(at, scope, name, ab)?;
+        self.body(outer, at, parameter, a, b, body, levels)?;
+        self.type_of(outer, rest, levels)
+    }
+
+    // A form that puts a name in scope.
+    #[cycle(expressions)]
+    fn binder(&mut self, scope: Scope, form: ExpNode, levels: u8) -> Result<u16, CheckFault>
+        requires holds { HasParts self.old.given levels form }
+        requires binds { is_binder form ≡ true }
+        ensures kept { Kept self.old self.new }
+        ensures gives { Gives (form_n self.old.given levels form scope) result self.old self.new }
+    {
+        match form {
+            ExpNode::Proc {
+                at,
+                parameter,
+                of,
+                body,
+            } => self.procedure(scope, at, parameter, of, body, levels),
+            ExpNode::Let {
+                at,
+                name,
+                bound,
+                body,
+            } => self.let_in(scope, at, name, bound, body, levels),
+            ExpNode::Letrec {
+                at,
+                result,
+                name,
+                parameter,
+                of,
+                body,
+                rest,
+            } => { self.letrec(scope, at, name, parameter, result, of, body, rest, levels) }
+            _ => unreachable(),
+        }
     }
 
     // The number of the type of the expression at `i`.
@@ -274,20 +300,17 @@ impl Tables<'_, '_, '_> {
         ensures kept { Kept self.old self.new }
         ensures gives { Gives (type_n self.old.given levels i scope) result self.old self.new }
     {
-        match self.expression(i, levels) {
+        let form = self.expression(i, levels);
+        match form {
             ExpNode::Number { .. } => Ok(INT),
             ExpNode::Boolean { .. } => Ok(BOOL),
             ExpNode::Variable { name } => {
-                let Some(ty) = self.look(scope.values, name) else {
-                    return Err(CheckFault::UnknownValue(name.place));
-                };
-                Ok(ty)
+                self.look(scope.values, name)
+                    .ok_or(CheckFault::UnknownValue(name.place))
             }
             ExpNode::From { at, module, name } => {
-                let Some(ty) = self.take_value(module, name) else {
-                    return Err(CheckFault::UnknownValue(at));
-                };
-                Ok(ty)
+                self.take_value(module, name)
+                    .ok_or(CheckFault::UnknownValue(at))
             }
             ExpNode::IsZero { part, .. } => self.is_zero(scope, part, levels - 1),
             ExpNode::Apply {
@@ -295,51 +318,21 @@ impl Tables<'_, '_, '_> {
                 operand,
                 ..
             } => self.apply(scope, operator, operand, levels - 1),
-            ExpNode::Proc {
-                at,
-                parameter,
-                of,
-                body,
-            } => self.procedure(scope, at, parameter, of, body, levels - 1),
-            ExpNode::Let {
-                at,
-                name,
-                bound,
-                body,
-            } => self.let_in(scope, at, name, bound, body, levels - 1),
             ExpNode::If {
                 test,
                 consequent,
                 alternative,
                 ..
             } => self.conditional(scope, test, consequent, alternative, levels - 1),
-            ExpNode::Letrec {
-                at,
-                result,
-                name,
-                parameter,
-                of,
-                body,
-                rest,
-            } => {
-                self.letrec(
-                    scope,
-                    at,
-                    name,
-                    parameter,
-                    result,
-                    of,
-                    body,
-                    rest,
-                    levels - 1,
-                )
-            }
             ExpNode::Binary {
                 operator,
                 left,
                 right,
                 ..
             } => self.binary(scope, operator, left, right, levels - 1),
+            ExpNode::Proc { .. } | ExpNode::Let { .. } | ExpNode::Letrec { .. } => {
+                self.binder(scope, form, levels - 1)
+            }
         }
     }
 }
@@ -358,16 +351,16 @@ fn place_of(expression: ExpNode) -> u16
     ensures { result ≡ place_of expression }
 {
     match expression {
-        ExpNode::Number { at, .. } => at,
-        ExpNode::Boolean { at, .. } => at,
         ExpNode::Variable { name } => name.place,
-        ExpNode::From { at, .. } => at,
-        ExpNode::IsZero { at, .. } => at,
-        ExpNode::Apply { at, .. } => at,
-        ExpNode::Proc { at, .. } => at,
-        ExpNode::Let { at, .. } => at,
-        ExpNode::If { at, .. } => at,
-        ExpNode::Letrec { at, .. } => at,
-        ExpNode::Binary { at, .. } => at,
+        ExpNode::Number { at, .. }
+        | ExpNode::Boolean { at, .. }
+        | ExpNode::From { at, .. }
+        | ExpNode::IsZero { at, .. }
+        | ExpNode::Apply { at, .. }
+        | ExpNode::Proc { at, .. }
+        | ExpNode::Let { at, .. }
+        | ExpNode::If { at, .. }
+        | ExpNode::Letrec { at, .. }
+        | ExpNode::Binary { at, .. } => at,
     }
 }

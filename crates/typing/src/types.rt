@@ -1,3 +1,4 @@
+ghost use Rattle.std.specs.Prelude.{◌≡◌};
 ghost use Rattle.typing.specs.Slots.{held_slot};
 
 use grammar::tree::Node;
@@ -30,8 +31,7 @@ impl Holds for Slot {
     fn binding(&self, _link: u16) -> Option<Binding<u16>> {
         match *self {
             Slot::Blank => None,
-            Slot::OfType(b) => Some(b),
-            Slot::OfValue(b) => Some(b),
+            Slot::OfType(b) | Slot::OfValue(b) => Some(b),
         }
     }
 }
@@ -42,6 +42,19 @@ pub struct Scope {
     pub used: u16,
     pub types: u16,
     pub values: u16,
+}
+
+impl Scope {
+    // Nothing in scope, with this many places in use.
+    pub fn empty_at(used: u16) -> Scope
+        ensures { result ≡ record { used = used; types = 0; values = 0 } }
+    {
+        Scope {
+            used,
+            types: 0,
+            values: 0,
+        }
+    }
 }
 
 // The interface of a checked module: where the search for its type names and for its value names begins.

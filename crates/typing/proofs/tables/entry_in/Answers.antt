@@ -1,16 +1,12 @@
-use Rattle.std.proofs.Common.{◌≤◌, length, sym, ◌∙◌, arith}
-use Rattle.typing.proofs.Places.{entry_here, entry-on, entry-none}
+use Rattle.std.proofs.Common.{rules, tests}
+use Rattle.std.proofs.lemmas.Iterator.{YieldsList-from_slice}
+use Rattle.std.proofs.lemmas.Iterator.Search.{find_from_yields_List}
+use Rattle.words.specs.Names.{same_name}
+use Rattle.typing.specs.declared.types.Known.{Known}
 use Rattle.typing.proofs.tables.entry_in.Goals as goal
-
-pub returns-then-same_name : goal.returns-then-same_name
-returns-then-same_name c =
-    sym (c.loop-e.invariant ∙ entry_here _ _ _ _ c.loop-e-test.true (sym c.if-same_name.ensures))
-
-pub loop-e-preserved : goal.loop-e-preserved
-loop-e-preserved c =
-    c.loop-e.invariant ∙ entry-on _ _ _ _ c.loop-e-test.true (sym c.if-same_name.ensures)
 
 pub returns : goal.returns
 returns c =
-    let h : length c.args.entries.now ≤ c.loop-e.e-index = omega arith in
-    sym (c.loop-e.invariant ∙ entry-none _ _ _ h)
+    let e = find_from_yields_List (λ (e : Known). same_name e.name.now c.args.name.now) _ _ c.find.result c.find.ensures.ran
+    (YieldsList-from_slice c.args.entries.now cc) (λ x b q k. search (rules, tests)) in
+    search (rules, e)

@@ -1,19 +1,13 @@
-use Rattle.std.proofs.Common.{ℕ, ◌≤◌, List, length, sym, ap, ◌∙◌, arith}
+use Rattle.std.proofs.Common.{◌∙◌, rules, tests}
+use Rattle.std.proofs.lemmas.Iterator.{YieldsList-from_slice}
+use Rattle.std.proofs.lemmas.Iterator.Search.{find_from_yields_List}
 use Rattle.words.specs.Names.{same_name}
-use Rattle.typing.proofs.Places.{interface-here, interface-on, interface-none}
+use Rattle.language.specs.Bindings.{spelled_in}
+use Rattle.typing.specs.declared.types.Interface.{Interface}
 use Rattle.typing.proofs.tables.interface_in.Goals as goal
-
-pub returns-then-same_name : goal.returns-then-same_name
-returns-then-same_name c =
-    let e = c.if-same_name.ensures ∙ ap (λ (y : List ℕ). same_name y c.args.name.now) c.spelled.ensures in
-    sym (c.loop-i.invariant ∙ interface-here _ _ _ _ _ c.loop-i-test.true (sym e))
-
-pub loop-i-preserved : goal.loop-i-preserved
-loop-i-preserved c =
-    let e = c.if-same_name.ensures ∙ ap (λ (y : List ℕ). same_name y c.args.name.now) c.spelled.ensures in
-    c.loop-i.invariant ∙ interface-on _ _ _ _ _ c.loop-i-test.true (sym e)
 
 pub returns : goal.returns
 returns c =
-    let h : length c.args.interfaces.now ≤ c.loop-i.i-index = omega arith in
-    sym (c.loop-i.invariant ∙ interface-none _ _ _ _ h)
+    c.copied.ensures ∙ find_from_yields_List
+    (λ (i : Interface). same_name (spelled_in c.args.text.now i.name) c.args.name.now)
+    _ _ _ c.find.ensures.ran (YieldsList-from_slice c.args.interfaces.now cc) (λ x b q k. search (rules, tests))

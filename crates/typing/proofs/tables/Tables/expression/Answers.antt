@@ -5,8 +5,8 @@ use Rattle.typing.specs.Tables.{form_e, on_exp, expand_n, type_n}
 use Rattle.typing.proofs.Walks.{exp-deep, exp-inside, exp-step, typing-step, is-expression}
 use Rattle.typing.proofs.tables.Tables.expression.Goals as goal
 
-pub bounds-self-i : goal.bounds-self-i
-bounds-self-i c = exp-inside _ _ _ _ c.requires
+pub bounds : goal.bounds
+bounds c = exp-inside _ _ _ _ c.requires
 
 pub unreachable-requires : goal.unreachable-requires
 unreachable-requires c = is-expression _ _ _ _ _ c.requires c.in_default.not-Expression

@@ -1,15 +1,17 @@
-use Rattle.std.proofs.Common.{List, sym, ap, ◌∙◌, rules}
-use Rattle.std.proofs.lemmas.List.{take_all}
-use Rattle.typing.specs.declared.types.TypeEntry.{TypeEntry}
-use Rattle.typing.specs.Tables.{type_place, found_n}
+use Rattle.std.proofs.Common.{◌<◌, rules, sym, ◌∙◌, arith}
+use Rattle.typing.specs.Tables.{found_n}
+use Rattle.typing.specs.declared.types.TypeEntry.TheVariants as entry
+use Rattle.std.proofs.lemmas.Iterator.Adapters.{position_from-zero}
+use Rattle.typing.proofs.Places.{place_within}
 use Rattle.typing.proofs.tables.Tables.find.Goals as goal
 
-pub returns-then-n-self : goal.returns-then-n-self
+pub returns-in_err-k : goal.returns-in_err-k
 unfolding found_n
-returns-then-n-self c =
-    c.find_in.ensures ∙ ap (λ (ts : List TypeEntry). type_place c.args.self.now.given.text.now c.args.wanted 0 ts)
-    (sym (take_all c.args.self.now.count c.args.self.now.types.now c.if-n-self.true))
+returns-in_err-k c = search (rules, position_from-zero)
 
 pub returns : goal.returns
 unfolding found_n
-returns c = search rules
+returns c =
+    let h : c.in_ok-k.k < c.from-count.result = place_within _ _ _ _ entry.Blank (sym c.place_in.ensures ∙ c.in_ok-k.was) in
+    let b : c.in_ok-k.k < 65536 = omega arith in
+    search (rules, position_from-zero)

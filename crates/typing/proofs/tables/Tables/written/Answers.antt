@@ -5,8 +5,8 @@ use Rattle.typing.specs.Tables.{form_t, on_type, expand_n}
 use Rattle.typing.proofs.Walks.{type-deep, type-inside, type-step, expand-step, is-type}
 use Rattle.typing.proofs.tables.Tables.written.Goals as goal
 
-pub bounds-self-i : goal.bounds-self-i
-bounds-self-i c = type-inside _ _ _ _ c.requires
+pub bounds : goal.bounds
+bounds c = type-inside _ _ _ _ c.requires
 
 pub unreachable-requires : goal.unreachable-requires
 unreachable-requires c = is-type _ _ _ _ _ c.requires c.in_default.not-Type
