@@ -8,11 +8,11 @@ use Rattle.std.proofs.lemmas.Bool.{true≢false}
 use Rattle.language.specs.Machine.{stop_number}
 use Rattle.language.specs.Pantry.{Pantry, Lawful}
 use Rattle.pantry.specs.declared.faults.NoAnswer.{NoAnswer as Fault}
-use Rattle.line.specs.declared.outcomes.Stop.{Stop}
-use Rattle.line.specs.declared.outcomes.Stop.TheVariants.{NoCell, NoFrame, TooLarge, DivideByZero, NoAnswer, NoRule}
+use Rattle.job.specs.declared.reasons.Reason.{Reason}
+use Rattle.job.specs.declared.reasons.Reason.TheVariants.{NoCell, NoFrame, TooLarge, DivideByZero, NoAnswer, NoRule}
 use Rattle.line.specs.Laws.{StopFits}
 use Rattle.line.specs.Lines.{steps_bytes, stop_bytes}
-use Rattle.line.specs.Stops.{reason_of}
+use Rattle.job.specs.Maps.{reason_of}
 use Rattle.line.proofs.Pieces.{split, word-decimal, word-signed, word-name}
 use Rattle.line.proofs.Stocked.{name_at, entry_named, entry-same}
 
@@ -24,10 +24,10 @@ steps-same n m h k e =
     (split (decimal n) (decimal m) 10 10 [] [] (word-decimal n a).solid (word-decimal m b).solid refl refl (ap (drop 7) e)).0
 
 -- the number of a stop, and what the pantry was asked for
-abbrev pub number : Stop → ℕ
+abbrev pub number : Reason → ℕ
 number s = stop_number (reason_of s)
 
-abbrev pub asks : Stop → Option Fault
+abbrev pub asks : Reason → Option Fault
 asks NoCell = none
 asks NoFrame = none
 asks TooLarge = none
@@ -36,11 +36,11 @@ asks (NoAnswer f) = some f
 asks NoRule = none
 
 -- they make up the stop
-rebuilt : ℕ → Option Fault → Stop
+rebuilt : ℕ → Option Fault → Reason
 rebuilt n none = cond (eqb n 24) NoCell (cond (eqb n 25) NoFrame (cond (eqb n 26) TooLarge (cond (eqb n 27) DivideByZero NoRule)))
 rebuilt n (some f) = NoAnswer f
 
-stop-rebuilt : (s : Stop) → rebuilt (number s) (asks s) ≡ s
+stop-rebuilt : (s : Reason) → rebuilt (number s) (asks s) ≡ s
 unfolding rebuilt
 stop-rebuilt NoCell = refl
 stop-rebuilt NoFrame = refl
@@ -53,7 +53,7 @@ abbrev there : Option Fault → Bool
 there none = false
 there (some f) = true
 
-asks-28 : (s : Stop) → there (asks s) ≡ eqb (number s) 28
+asks-28 : (s : Reason) → there (asks s) ≡ eqb (number s) 28
 asks-28 NoCell = refl
 asks-28 NoFrame = refl
 asks-28 TooLarge = refl
@@ -61,7 +61,7 @@ asks-28 DivideByZero = refl
 asks-28 (NoAnswer f) = refl
 asks-28 NoRule = refl
 
-pub number_small : (s : Stop) → number s < 2 ^ 64
+pub number_small : (s : Reason) → number s < 2 ^ 64
 number_small NoCell = lit< tt
 number_small NoFrame = lit< tt
 number_small TooLarge = lit< tt
@@ -73,7 +73,7 @@ abbrev pub AskFits : Pantry → Option Fault → Type 0
 AskFits p none = Unit {0}
 AskFits p (some f) = (f.entry < length p) × (mag f.argument < 2 ^ 31)
 
-pub ask-fits : (p : Pantry) (s : Stop) → StopFits p s → AskFits p (asks s)
+pub ask-fits : (p : Pantry) (s : Reason) → StopFits p s → AskFits p (asks s)
 ask-fits p NoCell h = tt
 ask-fits p NoFrame h = tt
 ask-fits p TooLarge h = tt
@@ -86,7 +86,7 @@ abbrev pub rest : Pantry → Option Fault → ℕ → List ℕ
 rest p none n = codes "steps " ++ (decimal n ++ codes "\n")
 rest p (some f) n = name_at p f.entry ++ (32 ∷ (signed_decimal f.argument ++ steps_bytes n))
 
-pub stop-then : (p : Pantry) (s : Stop) (n : ℕ) → stop_bytes p s ++ steps_bytes n ≡ decimal (number s) ++ (32 ∷ rest p (asks s) n)
+pub stop-then : (p : Pantry) (s : Reason) (n : ℕ) → stop_bytes p s ++ steps_bytes n ≡ decimal (number s) ++ (32 ∷ rest p (asks s) n)
 unfolding digits
 stop-then p NoCell n = refl
 stop-then p NoFrame n = refl
@@ -113,7 +113,7 @@ rest-same p (some f) (some g) n m l t a b h k e =
     let arguments = signed_decimal_injective f.argument g.argument (omega (arith, a.1)) (omega (arith, b.1)) j.0 in
     (ap some (fault-same f g entries arguments), steps-same n m h k j.1)
 
-pub stop-same : (p : Pantry) (s t : Stop) (n m : ℕ) → Lawful p → StopFits p s → StopFits p t → n < 2 ^ 32 → m < 2 ^ 32 →
+pub stop-same : (p : Pantry) (s t : Reason) (n m : ℕ) → Lawful p → StopFits p s → StopFits p t → n < 2 ^ 32 → m < 2 ^ 32 →
     stop_bytes p s ++ steps_bytes n ≡ stop_bytes p t ++ steps_bytes m → (s ≡ t) × (n ≡ m)
 stop-same p s t n m l a b h k e =
     let e1 = sym (stop-then p s n) ∙ e ∙ stop-then p t m in

@@ -4,11 +4,11 @@ use Rattle.language.specs.Job.{Answer, going_at, done_at, stop_at}
 use Rattle.language.specs.Machine as machine
 use Rattle.line.specs.declared.outcomes.Value.{Value}
 use Rattle.line.specs.declared.outcomes.Value.TheVariants.{Integer, Boolean, Procedure}
-use Rattle.line.specs.declared.outcomes.Stop.{Stop}
-use Rattle.line.specs.declared.outcomes.Stop.TheVariants.{NoCell, NoFrame, TooLarge, DivideByZero, NoAnswer, NoRule}
+use Rattle.job.specs.declared.reasons.Reason.{Reason}
+use Rattle.job.specs.declared.reasons.Reason.TheVariants.{NoCell, NoFrame, TooLarge, DivideByZero, NoAnswer, NoRule}
+use Rattle.job.specs.Maps.{reason_of}
 use Rattle.line.specs.declared.outcomes.Outcome.{Outcome}
 use Rattle.line.specs.declared.outcomes.Outcome.TheVariants.{Done, Going, Stopped}
-use Rattle.line.specs.Stops.{reason_of}
 
 -- a value: no line tells procedures apart
 abbrev pub shown_of : machine.Value → Value
@@ -17,8 +17,8 @@ shown_of (machine.boolean b) = Boolean b
 shown_of (machine.closure j s) = Procedure
 shown_of (machine.pantry_procedure i) = Procedure
 
--- a reason to stop, with the entry's number and the argument
-abbrev pub stop_of : machine.Reason → Stop
+-- a reason to stop, with the entry's number and the argument, as a job gives it
+abbrev pub stop_of : machine.Reason → Reason
 stop_of machine.no_cell = NoCell
 stop_of machine.no_frame = NoFrame
 stop_of machine.too_large = TooLarge

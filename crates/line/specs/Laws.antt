@@ -7,8 +7,8 @@ use Rattle.language.specs.Pantry.{Pantry, Lawful}
 use Rattle.language.specs.Typing.{ExpandedType, int, bool, hidden, ◌⇒◌}
 use Rattle.line.specs.declared.outcomes.Value.{Value}
 use Rattle.line.specs.declared.outcomes.Value.TheVariants.{Integer, Boolean, Procedure}
-use Rattle.line.specs.declared.outcomes.Stop.{Stop}
-use Rattle.line.specs.declared.outcomes.Stop.TheVariants.{NoCell, NoFrame, TooLarge, DivideByZero, NoAnswer, NoRule}
+use Rattle.job.specs.declared.reasons.Reason.{Reason}
+use Rattle.job.specs.declared.reasons.Reason.TheVariants.{NoCell, NoFrame, TooLarge, DivideByZero, NoAnswer, NoRule}
 use Rattle.line.specs.declared.outcomes.Outcome.{Outcome}
 use Rattle.line.specs.declared.outcomes.Outcome.TheVariants.{Done, Going, Stopped, Refused}
 use Rattle.line.specs.Lines.{line_of}
@@ -27,7 +27,7 @@ ValueFits (Boolean b) = Unit {0}
 ValueFits Procedure = Unit {0}
 
 -- a stop of the code, about an entry that the pantry has
-abbrev pub StopFits : Pantry → Stop → Type 0
+abbrev pub StopFits : Pantry → Reason → Type 0
 StopFits p NoCell = Unit {0}
 StopFits p NoFrame = Unit {0}
 StopFits p TooLarge = Unit {0}

@@ -1,6 +1,6 @@
-pub mod Buffer
+pub mod Sinks
+pub mod SinkLaws
 pub mod Types
-pub mod Stops
 pub mod Faults
 pub mod Lines
 pub mod Answers

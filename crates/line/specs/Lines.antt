@@ -3,7 +3,7 @@ use Rattle.std.specs.Prelude.{ℕ, cond, List, [], ◌++◌, length, drop, Ok, E
 use Rattle.std.proofs.Math.Option.{Option, none, some}
 use Rattle.std.proofs.Math.ListN.{get_elem?}
 use Rattle.std.specs.Fmt.{signed_decimal}
-use Rattle.language.specs.Machine.{Reason, no_cell, no_frame, too_large, divide_by_zero, no_answer, no_rule, stop_number}
+use Rattle.language.specs.Machine.{Reason as MachineReason, no_cell, no_frame, too_large, divide_by_zero, no_answer, no_rule, stop_number}
 use Rattle.language.specs.Names.{Binding, bind}
 use Rattle.language.specs.Pantry.{Kind, Pantry, stock_of}
 use Rattle.language.specs.Typing.{ExpandedType, int, bool, hidden, ◌⇒◌}
@@ -11,14 +11,14 @@ use Rattle.typing.specs.Told.{type_told}
 use Rattle.line.specs.declared.faults.TooShort.{TooShort}
 use Rattle.line.specs.declared.outcomes.Value.{Value}
 use Rattle.line.specs.declared.outcomes.Value.TheVariants.{Integer, Boolean, Procedure}
-use Rattle.line.specs.declared.outcomes.Stop.{Stop}
+use Rattle.job.specs.declared.reasons.Reason.{Reason}
+use Rattle.job.specs.Maps.{reason_of}
 use Rattle.line.specs.declared.outcomes.Layer.{Layer}
 use Rattle.line.specs.declared.outcomes.Layer.TheVariants as layer
 use Rattle.line.specs.declared.outcomes.Refusal.{Refusal}
 use Rattle.line.specs.declared.outcomes.Outcome.{Outcome}
 use Rattle.line.specs.declared.outcomes.Outcome.TheVariants.{Done, Going, Stopped, Refused}
 use Rattle.line.specs.declared.types.ClosingType.{ClosingType}
-use Rattle.line.specs.Stops.{reason_of}
 use Rattle.line.specs.Types.{type_bytes}
 
 -- the closing type
@@ -46,7 +46,7 @@ name_of none = []
 name_of (some (bind x k)) = x
 
 -- what stands behind a stop's number: where the pantry has no answer, the entry's name and the argument
-abbrev pub asked_bytes : Pantry → Reason → List ℕ
+abbrev pub asked_bytes : Pantry → MachineReason → List ℕ
 asked_bytes p no_cell = []
 asked_bytes p no_frame = []
 asked_bytes p too_large = []
@@ -54,7 +54,7 @@ asked_bytes p divide_by_zero = []
 asked_bytes p (no_answer i z) = codes " " ++ (name_of (get_elem? (stock_of p) i) ++ (codes " " ++ signed_decimal z))
 asked_bytes p no_rule = []
 
-abbrev pub stop_bytes : Pantry → Stop → List ℕ
+abbrev pub stop_bytes : Pantry → Reason → List ℕ
 stop_bytes p s = decimal (stop_number (reason_of s)) ++ asked_bytes p (reason_of s)
 
 abbrev pub layer_bytes : Layer → List ℕ

@@ -6,7 +6,7 @@ use Rattle.typing.specs.declared.types.TypeEntry.{TypeEntry}
 use Rattle.typing.specs.declared.types.TypeEntry.TheVariants as entry
 use Rattle.typing.specs.Told.{type_told}
 use Rattle.line.specs.declared.outcomes.Value.TheVariants.{Integer, Boolean, Procedure}
-use Rattle.line.specs.declared.outcomes.Stop.TheVariants.{DivideByZero, NoAnswer}
+use Rattle.job.specs.declared.reasons.Reason.TheVariants.{DivideByZero, NoAnswer}
 use Rattle.line.specs.declared.outcomes.Layer.TheVariants as layer
 use Rattle.line.specs.declared.outcomes.Outcome.TheVariants.{Done, Going, Stopped, Refused}
 use Rattle.line.specs.Faults.{line_refusal}

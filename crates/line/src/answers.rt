@@ -1,26 +1,9 @@
 ghost use Rattle.std.specs.Prelude.{◌≡◌};
-ghost use Rattle.job.specs.Maps.{answer_of, reason_of, value_of};
-ghost use Rattle.line.specs.Answers.{outcome_of, stop_of, shown_of};
+ghost use Rattle.job.specs.Maps.{answer_of, value_of};
+ghost use Rattle.line.specs.Answers.{outcome_of, shown_of};
 
-use crate::outcomes::{Outcome, Stop, Value};
-use job::answers::Answer;
-use job::reasons::Reason;
-use job::tables::Value as JobValue;
-
-impl From<Reason> for Stop {
-    ghost from_gives = { λ reason r. r ≡ stop_of (reason_of reason) };
-
-    fn from(reason: Reason) -> Stop {
-        match reason {
-            Reason::NoCell => Stop::NoCell,
-            Reason::NoFrame => Stop::NoFrame,
-            Reason::TooLarge => Stop::TooLarge,
-            Reason::DivideByZero => Stop::DivideByZero,
-            Reason::NoAnswer(fault) => Stop::NoAnswer(fault),
-            Reason::NoRule => Stop::NoRule,
-        }
-    }
-}
+use crate::outcomes::{Outcome, Value};
+use job::{Answer, Value as JobValue};
 
 impl From<JobValue> for Value {
     ghost from_gives = { λ value r. r ≡ shown_of (value_of value) };
@@ -29,8 +12,7 @@ impl From<JobValue> for Value {
         match value {
             JobValue::Integer(z) => Value::Integer(z),
             JobValue::Boolean(b) => Value::Boolean(b),
-            JobValue::Closure { .. } => Value::Procedure,
-            JobValue::PantryProcedure(_) => Value::Procedure,
+            JobValue::Closure { .. } | JobValue::PantryProcedure(_) => Value::Procedure,
         }
     }
 }
@@ -45,10 +27,7 @@ impl From<Answer> for Outcome {
                 value: value.into(),
                 steps,
             },
-            Answer::Stop { reason, steps } => Outcome::Stopped {
-                stop: reason.into(),
-                steps,
-            },
+            Answer::Stop { reason, steps } => Outcome::Stopped { reason, steps },
         }
     }
 }

@@ -1,14 +1,14 @@
 ghost use Rattle.std.specs.Prelude.{◌≡◌};
-ghost use Rattle.line.specs.Faults.{check_refusal, grammar_refusal, items_refusal, line_refusal, words_refusal};
+ghost use Rattle.line.specs.Faults.{check_refusal, grammar_refusal, items_refusal, layer_of, line_refusal, words_refusal};
 
 use crate::outcomes::{Layer, Refusal};
-use grammar::faults::Fault as GrammarFault;
+use grammar::faults::{Fault as GrammarFault, Layer as TextLayer};
 use pantry::faults::LoadFault;
 use rules::faults::CheckFault;
 use words::Fault as WordFault;
 
 // The buffer is too short for the line.
-#[derive(Clone, Copy)]
+#[derive(Clone, Copy, PartialEq, Eq, Debug)]
 pub struct TooShort;
 
 impl From<TooShort> for Refusal {
@@ -27,16 +27,17 @@ impl From<WordFault> for Refusal {
     ghost from_gives = { λ fault r. r ≡ words_refusal fault };
 
     fn from(fault: WordFault) -> Refusal {
-        let (number, place) = match fault {
-            WordFault::TooLong => (1, 32768),
-            WordFault::Stray(place) => (2, place),
-            WordFault::LongName(place) => (3, place),
-            WordFault::LargeNumber(place) => (4, place),
-        };
-        Refusal {
-            number,
-            place,
-            layer: Layer::Words,
+        GrammarFault::from(fault).into()
+    }
+}
+
+impl From<TextLayer> for Layer {
+    ghost from_gives = { λ layer r. r ≡ layer_of layer };
+
+    fn from(layer: TextLayer) -> Layer {
+        match layer {
+            TextLayer::Words => Layer::Words,
+            TextLayer::Grammar => Layer::Grammar,
         }
     }
 }
@@ -45,17 +46,10 @@ impl From<GrammarFault> for Refusal {
     ghost from_gives = { λ fault r. r ≡ grammar_refusal fault };
 
     fn from(fault: GrammarFault) -> Refusal {
-        let (number, place) = match fault {
-            GrammarFault::Word(word) => return word.into(),
-            GrammarFault::Unexpected(place) => (5, place),
-            GrammarFault::TooDeep(place) => (6, place),
-            GrammarFault::TooManyModules(place) => (7, place),
-            GrammarFault::TreeFull(place) => (21, place),
-        };
         Refusal {
-            number,
-            place,
-            layer: Layer::Grammar,
+            number: fault.number(),
+            place: fault.place(),
+            layer: fault.layer().into(),
         }
     }
 }

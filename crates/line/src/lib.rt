@@ -6,10 +6,11 @@ mod buffer;
 pub mod faults;
 pub mod lines;
 pub mod outcomes;
+mod sinks;
 pub mod theorems;
 pub mod types;
 
 pub use faults::TooShort;
 pub use lines::{write_line, write_refusal};
-pub use outcomes::{Layer, Outcome, Refusal, Stop, Value};
+pub use outcomes::{Layer, Outcome, Refusal, Value};
 pub use types::ClosingType;

@@ -1,20 +1,81 @@
-ghost use Rattle.std.specs.Prelude.{◌≡◌};
+ghost use Rattle.std.specs.Prelude.{◌≡◌, ℕ, List};
 ghost use Rattle.std.proofs.Math.ListN.{get_elem?};
 ghost use Rattle.language.specs.Pantry.{stock_of};
 ghost use Rattle.typing.specs.Told.{type_of_entry, type_within};
-ghost use Rattle.line.specs.Buffer.{Wrote};
-ghost use Rattle.line.specs.Lines.{answer, closing_of, layer_bytes, line_of, name_of, refusal_bytes, steps_bytes, stop_bytes, value_bytes, written};
+ghost use Rattle.line.specs.Sinks.{Put};
+ghost use Rattle.line.specs.Lines.{answer, closing_of, line_of, name_of, refusal_bytes, steps_bytes, stop_bytes, value_bytes, written};
 
-use crate::buffer::Writer;
+use crate::buffer::Front;
 use crate::faults::TooShort;
-use crate::outcomes::{Layer, Outcome, Refusal, Stop, Value};
-use crate::types::{ClosingType, entry_at};
-use pantry::factors::Factors;
+use crate::outcomes::{Outcome, Refusal, Value};
+use crate::sinks::{Measure, Sink};
+use crate::types::ClosingType;
+use itoa::{Buffer, Integer};
+use job::Reason;
 use pantry::pantries::Pantry;
 use typing::types::TypeEntry;
 
 // No type of a checked sheet is deeper.
 const LEVELS: u8 = 32;
+
+// What has a line of its own.
+trait Told {
+    ghost bytes: { Self → List ℕ };
+
+    fn tell<S: Sink>(&self, sink: &mut S) -> Result<(), TooShort>
+        ensures { Put S.room S.took (bytes self.now) result sink.old sink.new };
+}
+
+// Tells a number in decimal.
+fn number<S: Sink, N: Integer>(sink: &mut S, n: N) -> Result<(), TooShort>
+    ensures { Put S.room S.took (N.text n) result sink.old sink.new }
+{
+    sink.put(Buffer::new().format(n).as_bytes())
+}
+
+// Tells the steps, and ends the line.
+fn steps<S: Sink>(sink: &mut S, n: u32) -> Result<(), TooShort>
+    ensures { Put S.room S.took (steps_bytes n) result sink.old sink.new }
+{
+    sink.put(b" steps ")?;
+    number(sink, n)?;
+    sink.put(b"\n")
+}
+
+impl Told for Refusal {
+    ghost bytes = { refusal_bytes };
+
+    #[tactic(auto, unfolding(crate::specs::Lines::refusal_bytes))]
+    fn tell<S: Sink>(&self, sink: &mut S) -> Result<(), TooShort> {
+        sink.put(b"refused ")?;
+        number(sink, self.number)?;
+        sink.put(b" at ")?;
+        number(sink, self.place)?;
+        sink.put(b" by ")?;
+        sink.put(self.layer.name())?;
+        sink.put(b"\n")
+    }
+}
+
+// The outermost form of the closing type.
+fn outermost(closing: ClosingType) -> TypeEntry
+    ensures { closing_of closing.entry ≡
+        type_of_entry closing.entry.text.now (type_within 31 closing.entry.text.now closing.entry.types.now) result }
+{
+    closing.entry()
+}
+
+// Tells a value of the type, as far as that type shows it.
+fn value<S: Sink>(sink: &mut S, closing: ClosingType, value: Value) -> Result<(), TooShort>
+    ensures { Put S.room S.took (value_bytes (closing_of closing.entry) value) result sink.old sink.new }
+{
+    match (outermost(closing), value) {
+        (TypeEntry::Int, Value::Integer(z)) => number(sink, z),
+        (TypeEntry::Bool, Value::Boolean(true)) => sink.put(b"true"),
+        (TypeEntry::Bool, Value::Boolean(false)) => sink.put(b"false"),
+        _ => sink.put(b"hidden"),
+    }
+}
 
 // The name of an entry, or nothing where the pantry has no such entry.
 fn entry_name<P: Pantry>(pantry: &P, i: u8) -> &[u8]
@@ -26,99 +87,63 @@ fn entry_name<P: Pantry>(pantry: &P, i: u8) -> &[u8]
     }
 }
 
-// The outermost form of the closing type.
-fn outermost(closing: ClosingType) -> TypeEntry
-    ensures { closing_of closing.entry ≡
-        type_of_entry closing.entry.text.now (type_within 31 closing.entry.text.now closing.entry.types.now) result }
+// Tells why a job stopped: the number, and where the pantry has no answer the entry's name and the argument.
+fn stop<S: Sink, P: Pantry>(sink: &mut S, pantry: &P, reason: Reason) -> Result<(), TooShort>
+    ensures { Put S.room S.took (stop_bytes (P.meaning pantry.now) reason) result sink.old sink.new }
 {
-    entry_at(closing.types, closing.number)
+    number(sink, reason.number())?;
+    if let Reason::NoAnswer(fault) = reason {
+        sink.put(b" ")?;
+        sink.put(entry_name(pantry, fault.entry))?;
+        sink.put(b" ")?;
+        number(sink, fault.argument)?;
+    }
+    Ok(())
 }
 
-impl Writer<'_> {
-    // Appends a value of the type, as far as that type shows it.
-    fn value(&mut self, closing: ClosingType, value: Value)
-        ensures { Wrote (value_bytes (closing_of closing.entry) value) self.old self.new }
-    {
-        match (outermost(closing), value) {
-            (TypeEntry::Int, Value::Integer(z)) => self.integer(z),
-            (TypeEntry::Bool, Value::Boolean(true)) => self.put(b"true"),
-            (TypeEntry::Bool, Value::Boolean(false)) => self.put(b"false"),
-            _ => self.put(b"hidden"),
-        }
-    }
+// An outcome, with the pantry and the closing type that it speaks of.
+#[derive(Drop)]
+struct Report<'p, 't, 'y, P> {
+    pantry: &'p P,
+    closing: ClosingType<'t, 'y>,
+    outcome: Outcome,
+}
 
-    // Appends the steps and the line's end.
-    fn steps(&mut self, n: u32)
-        ensures { Wrote (steps_bytes n) self.old self.new }
-    {
-        self.put(b" steps ");
-        self.number(n as u64);
-        self.put(b"\n")
-    }
+impl<P: Pantry> Told for Report<'_, '_, '_, P> {
+    ghost bytes = { λ r. line_of (P.meaning r.pantry.now) (closing_of r.closing) r.outcome };
 
-    fn layer(&mut self, layer: Layer)
-        ensures { Wrote (layer_bytes layer) self.old self.new }
-    {
-        match layer {
-            Layer::Words => self.put(b"words"),
-            Layer::Grammar => self.put(b"grammar"),
-            Layer::Check => self.put(b"check"),
-            Layer::Items => self.put(b"items"),
-            Layer::Line => self.put(b"line"),
-        }
-    }
-
-    // Appends the line of a refusal.
-    fn refusal(&mut self, refusal: Refusal)
-        ensures { Wrote (refusal_bytes refusal) self.old self.new }
-    {
-        self.put(b"refused ");
-        self.number(refusal.number as u64);
-        self.put(b" at ");
-        self.number(refusal.place as u64);
-        self.put(b" by ");
-        self.layer(refusal.layer);
-        self.put(b"\n")
-    }
-
-    // Appends why a job stopped: the number, and where the pantry has no answer the entry's name and the argument.
-    fn stop<P: Pantry>(&mut self, pantry: &P, stop: Stop)
-        ensures { Wrote (stop_bytes (P.meaning pantry.now) stop) self.old self.new }
-    {
-        self.number(stop.number() as u64);
-        if let Stop::NoAnswer(fault) = stop {
-            self.put(b" ");
-            self.put(entry_name(pantry, fault.entry));
-            self.put(b" ");
-            self.integer(fault.argument)
-        }
-    }
-
-    // Appends the line of an outcome.
-    fn outcome<P: Pantry>(&mut self, pantry: &P, closing: ClosingType, outcome: Outcome)
-        ensures { Wrote (line_of (P.meaning pantry.now) (closing_of closing.entry) outcome)
-            self.old self.new }
-    {
-        match outcome {
-            Outcome::Done { value, steps } => {
-                self.put(b"done ");
-                self.expanded_type(closing.text, closing.types, closing.number, LEVELS);
-                self.put(b" ");
-                self.value(closing, value);
-                self.steps(steps)
+    fn tell<S: Sink>(&self, sink: &mut S) -> Result<(), TooShort> {
+        match self.outcome {
+            Outcome::Done { value: z, steps: n } => {
+                sink.put(b"done ")?;
+                self.closing.tell(sink, LEVELS)?;
+                sink.put(b" ")?;
+                value(sink, self.closing, z)?;
+                steps(sink, n)
             }
-            Outcome::Going { steps } => {
-                self.put(b"going");
-                self.steps(steps)
+            Outcome::Going { steps: n } => {
+                sink.put(b"going")?;
+                steps(sink, n)
             }
-            Outcome::Stopped { stop, steps } => {
-                self.put(b"stop ");
-                self.stop(pantry, stop);
-                self.steps(steps)
+            Outcome::Stopped { reason, steps: n } => {
+                sink.put(b"stop ")?;
+                stop(sink, self.pantry, reason)?;
+                steps(sink, n)
             }
-            Outcome::Refused(refusal) => self.refusal(refusal),
+            Outcome::Refused(refusal) => refusal.tell(sink),
         }
     }
+}
+
+// Writes the line at the front of the buffer, and gives its length. It is measured first, since a buffer that is too short stays as it is.
+fn write<T: Told>(told: &T, buffer: &mut [u8]) -> Result<usize, TooShort>
+    ensures answer { result ≡ answer (T.bytes told.now) buffer.old }
+    ensures written { buffer.new ≡ written (T.bytes told.now) buffer.old }
+{
+    told.tell(&mut Measure { room: buffer.len() })?;
+    let mut front = Front { buffer, at: 0 };
+    told.tell(&mut front)?;
+    Ok(front.at)
 }
 
 // Writes the line of an outcome at the front of the buffer, and gives its length.
@@ -133,31 +158,18 @@ pub fn write_line<P: Pantry>(
     ensures written { buffer.new ≡
         written (line_of (P.meaning pantry.now) (closing_of closing.entry) outcome) buffer.old }
 {
-    let mut writer = Writer {
-        buffer,
-        at: 0,
-        measuring: true,
-        short: false,
+    let report = Report {
+        pantry,
+        closing,
+        outcome,
     };
-    writer.outcome(pantry, closing, outcome);
-    if writer.short {
-        return Err(TooShort);
-    }
-    writer.at = 0;
-    writer.measuring = false;
-    writer.outcome(pantry, closing, outcome);
-    Ok(writer.at)
+    write(&report, buffer)
 }
 
-// Writes the line of a refusal at the front of the buffer, and gives its length. It tells of no type and no entry, so that any will do.
+// Writes the line of a refusal at the front of the buffer, and gives its length.
 pub fn write_refusal(refusal: Refusal, buffer: &mut [u8]) -> Result<usize, TooShort>
     ensures answer { result ≡ answer (refusal_bytes refusal) buffer.old }
     ensures written { buffer.new ≡ written (refusal_bytes refusal) buffer.old }
 {
-    let no_type = ClosingType {
-        text: &[],
-        types: &[],
-        number: 0,
-    };
-    write_line(&Factors, no_type, Outcome::Refused(refusal), buffer)
+    write(&refusal, buffer)
 }

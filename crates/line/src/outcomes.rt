@@ -1,46 +1,18 @@
 ghost use Rattle.std.specs.Prelude.{◌≡◌};
-ghost use Rattle.language.specs.Machine.{stop_number};
-ghost use Rattle.line.specs.Stops.{reason_of};
+ghost use Rattle.line.specs.Lines.{layer_bytes};
 
-use pantry::faults::NoAnswer;
+use job::Reason;
 
 // A closing value. No line tells more of a procedure.
-#[derive(Clone, Copy)]
+#[derive(Clone, Copy, PartialEq, Eq, Debug)]
 pub enum Value {
     Integer(i32),
     Boolean(bool),
     Procedure,
 }
 
-// Why a job stopped. Where the pantry has no answer, its own fault says which entry was asked for, and at which argument.
-#[derive(Clone, Copy)]
-pub enum Stop {
-    NoCell,
-    NoFrame,
-    TooLarge,
-    DivideByZero,
-    NoAnswer(NoAnswer),
-    NoRule,
-}
-
-impl Stop {
-    // The number that the line gives.
-    pub fn number(self) -> u8
-        ensures { result ≡ stop_number (reason_of self) }
-    {
-        match self {
-            Stop::NoCell => 24,
-            Stop::NoFrame => 25,
-            Stop::TooLarge => 26,
-            Stop::DivideByZero => 27,
-            Stop::NoAnswer(_) => 28,
-            Stop::NoRule => 29,
-        }
-    }
-}
-
 // The layer that refuses.
-#[derive(Clone, Copy)]
+#[derive(Clone, Copy, PartialEq, Eq, Debug)]
 pub enum Layer {
     Words,
     Grammar,
@@ -49,8 +21,22 @@ pub enum Layer {
     Line,
 }
 
+impl Layer {
+    pub(crate) fn name(self) -> &'static [u8]
+        ensures { result.now ≡ layer_bytes self }
+    {
+        match self {
+            Layer::Words => b"words",
+            Layer::Grammar => b"grammar",
+            Layer::Check => b"check",
+            Layer::Items => b"items",
+            Layer::Line => b"line",
+        }
+    }
+}
+
 // A fault of a sheet, of the item file or of the line itself.
-#[derive(Clone, Copy)]
+#[derive(Clone, Copy, PartialEq, Eq, Debug)]
 pub struct Refusal {
     pub number: u8,
     pub place: usize,
@@ -62,6 +48,6 @@ pub struct Refusal {
 pub enum Outcome {
     Done { value: Value, steps: u32 },
     Going { steps: u32 },
-    Stopped { stop: Stop, steps: u32 },
+    Stopped { reason: Reason, steps: u32 },
     Refused(Refusal),
 }

@@ -1,9 +1,11 @@
 ghost use Rattle.std.specs.Prelude.{◌≡◌};
+ghost use Rattle.language.specs.Typing.{hidden};
 ghost use Rattle.typing.specs.Told.{entry_told, type_within};
-ghost use Rattle.line.specs.Buffer.{Wrote};
+ghost use Rattle.line.specs.Sinks.{Put};
 ghost use Rattle.line.specs.Types.{type_bytes};
 
-use crate::buffer::Writer;
+use crate::faults::TooShort;
+use crate::sinks::Sink;
 use language::spans::spelled;
 use typing::types::TypeEntry;
 
@@ -15,48 +17,60 @@ pub struct ClosingType<'t, 'y> {
     pub number: u16,
 }
 
-// The entry at a place of the table; a place that is not there, or is never touched, is blank.
-pub(crate) fn entry_at(types: &[TypeEntry], i: u16) -> TypeEntry
-    ensures { result ≡ entry_told types.now i }
-{
-    let place = usize::from(i);
-    if i == u16::MAX || place >= types.len() {
-        return TypeEntry::Blank;
+impl ClosingType<'_, '_> {
+    // The entry of the type; a place that is not there is blank.
+    pub(crate) fn entry(self) -> TypeEntry
+        ensures { result ≡ entry_told self.entry.types.now self.entry.number }
+    {
+        match self.number {
+            u16::MAX => TypeEntry::Blank,
+            i => self
+                .types
+                .get(usize::from(i))
+                .copied()
+                .unwrap_or(TypeEntry::Blank),
+        }
     }
-    types[place]
+
+    // Tells the type, of at most so many levels. A type shares its parts, so it may be far longer than any buffer: the first piece that
+    // there is no room for ends it.
+    pub(crate) fn tell<S: Sink>(self, sink: &mut S, levels: u8) -> Result<(), TooShort>
+        ensures { Put S.room S.took
+            (type_bytes (type_within levels self.entry.text.now self.entry.types.now self.entry.number)) result sink.old sink.new }
+    {
+        if levels == 0 {
+            return hidden(sink, b"", b"");
+        }
+        match self.entry() {
+            TypeEntry::Blank => hidden(sink, b"", b""),
+            TypeEntry::Int => sink.put(b"int"),
+            TypeEntry::Bool => sink.put(b"bool"),
+            TypeEntry::Hidden { module, name } => hidden(
+                sink,
+                spelled(self.text, module),
+                spelled(self.text, name),
+            ),
+            TypeEntry::Arrow { from, to, .. } => {
+                sink.put(b"(")?;
+                ClosingType {
+                    number: from,
+                    ..self
+                }
+                .tell(sink, levels - 1)?;
+                sink.put(b" -> ")?;
+                ClosingType { number: to, ..self }.tell(sink, levels - 1)?;
+                sink.put(b")")
+            }
+        }
+    }
 }
 
-impl Writer<'_> {
-    // Appends the type at a place of the table, of at most so many levels. A type shares its parts, so it may be far longer than any
-    // buffer: nothing is looked at once the buffer is short.
-    pub(crate) fn expanded_type(&mut self, text: &[u8], types: &[TypeEntry], i: u16, levels: u8)
-        ensures { Wrote (type_bytes (type_within levels text.now types.now i))
-            self.old self.new }
-    {
-        if self.short {
-            return;
-        }
-        if levels == 0 {
-            self.put(b"from  take ");
-            return;
-        }
-        match entry_at(types, i) {
-            TypeEntry::Blank => self.put(b"from  take "),
-            TypeEntry::Int => self.put(b"int"),
-            TypeEntry::Bool => self.put(b"bool"),
-            TypeEntry::Hidden { module, name } => {
-                self.put(b"from ");
-                self.put(spelled(text, module));
-                self.put(b" take ");
-                self.put(spelled(text, name))
-            }
-            TypeEntry::Arrow { from, to, depth: _ } => {
-                self.put(b"(");
-                self.expanded_type(text, types, from, levels - 1);
-                self.put(b" -> ");
-                self.expanded_type(text, types, to, levels - 1);
-                self.put(b")")
-            }
-        }
-    }
+// Tells a hidden type, by its module and its name.
+fn hidden<S: Sink>(sink: &mut S, module: &[u8], name: &[u8]) -> Result<(), TooShort>
+    ensures { Put S.room S.took (type_bytes (hidden «module».now name.now)) result sink.old sink.new }
+{
+    sink.put(b"from ")?;
+    sink.put(module)?;
+    sink.put(b" take ")?;
+    sink.put(name)
 }

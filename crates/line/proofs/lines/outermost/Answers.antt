@@ -5,4 +5,4 @@ use Rattle.line.proofs.lines.outermost.Goals as goal
 pub returns : goal.returns
 returns c =
     type-read c.args.closing.text.now c.args.closing.types.now c.args.closing.number 32 _ (omega arith)
-    c.entry_at.ensures
+    c.entry.ensures

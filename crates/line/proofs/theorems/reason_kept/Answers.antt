@@ -1,7 +1,7 @@
 use Rattle.std.proofs.Common.{◌≡◌, refl}
 use Rattle.language.specs.Machine.{Reason, no_cell, no_frame, too_large, divide_by_zero, no_answer, no_rule}
 use Rattle.line.specs.Answers.{stop_of}
-use Rattle.line.specs.Stops.{reason_of}
+use Rattle.job.specs.Maps.{reason_of}
 use Rattle.line.proofs.theorems.reason_kept.Goals as goal
 
 kept : (k : Reason) → reason_of (stop_of k) ≡ k
