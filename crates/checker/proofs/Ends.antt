@@ -1,7 +1,8 @@
 -- The answer of the whole check, and both tables then.
-use Rattle.std.proofs.Common.{◌≡◌, ℕ, zero, suc, ◌-◌, ◌<◌, ◌≤◌, min, List, [], ◌∷◌, ◌++◌, length, take, drop, replicate, Some, Ok, Err, Result, sym, refl, ap, ◌∙◌, subst, arith, length-take}
+use Rattle.std.proofs.Common.{◌≡◌, ℕ, zero, suc, ◌-◌, ◌<◌, ◌≤◌, min, List, [], ◌∷◌, ◌++◌, length, take, drop, replicate, Some, Ok, Err, Result, sym, refl, ap, ◌∙◌, subst, ⊎_elim, append-nil, arith, length-take, length-drop}
 use lib.ListN.{length-replicate}
-use Rattle.std.proofs.lemmas.List.{drop_all, take_at, drop-replicate}
+use Rattle.std.proofs.lemmas.List.{drop_all, take_all, take_at, drop-replicate}
+use Rattle.std.proofs.lemmas.Bool.{cases_lt}
 use Rattle.std.specs.List.{slice_get}
 use Rattle.language.specs.Pantry.{Stock}
 use Rattle.language.specs.Typing.{ExpandedType}
@@ -17,26 +18,40 @@ use Rattle.checker.specs.Sheets.{places}
 use Rattle.checker.specs.Runs.{Declarations, Answers, AnswersFor, blank_types, blank_slots, Ends, EndsFor}
 use Rattle.checker.proofs.Declares.{declared-kept}
 
--- a table filled from its first place on
-pub all-blank : {A : Type 0} (xs ys : List A) (n : ℕ) (b : A) → length xs ≡ n → ys ≡ take 0 xs ++ replicate (length xs - 0) b → ys ≡ replicate n b
-all-blank xs ys n b l e = let z : length xs - 0 ≡ n = omega arith in e ∙ ap (λ (k : ℕ). replicate k b) z
-
 drop-front : {A : Type 0} (u : ℕ) (xs ys : List A) → u ≤ length xs → drop u (take u xs ++ ys) ≡ ys
 drop-front zero xs ys h = refl
 drop-front (suc u) [] ys h = absurd (omega arith)
 drop-front (suc u) (x ∷ xs) ys h = drop-front u xs ys (omega arith)
 
--- a table filled from the place u on
-pub blank-behind : {A : Type 0} (u : ℕ) (xs ys : List A) (b : A) → u < length xs → length ys ≡ length xs → ys ≡ take u xs ++ replicate (length xs - u) b →
-    drop u ys ≡ drop u (replicate (length xs) b)
-blank-behind u xs ys b h l e = ap (drop u) e ∙ (drop-front u xs (replicate (length xs - u) b) (omega arith) ∙ sym (drop-replicate u (length xs) b))
+module _ {A : Type 0} (u : ℕ) (xs : List A) (b : A) where
+  -- the places up to u stay, and those behind are blank
+  abbrev pub Cleared : List A → Type 0
+  Cleared zs = (take u zs ≡ take u xs) × (drop u zs ≡ drop u (replicate (length xs) b))
 
-pub none-behind : {A : Type 0} (u : ℕ) (xs : List A) (b : A) → length xs ≤ u → drop u xs ≡ drop u (replicate (length xs) b)
-none-behind u xs b h = drop_all u xs h ∙ sym (drop_all u (replicate (length xs) b) (simp length-replicate h))
+  within : (zs : List A) → u < length xs → zs ≡ take u xs ++ replicate (length xs - u) b → Cleared zs
+  within zs h e = (
+    ap (take u) e ∙ take_at (take u xs) (replicate (length xs - u) b) u (simp length-take (omega arith)),
+    ap (drop u) e ∙ (drop-front u xs (replicate (length xs - u) b) (omega arith) ∙ sym (drop-replicate u (length xs) b)),
+  )
 
--- and its places before u
-pub front-stays : {A : Type 0} (u : ℕ) (xs ys zs : List A) → u < length xs → ys ≡ take u xs ++ zs → take u ys ≡ take u xs
-front-stays u xs ys zs h e = ap (take u) e ∙ take_at (take u xs) zs u (simp length-take (omega arith))
+  past : (zs : List A) → length xs ≤ u → zs ≡ xs → Cleared zs
+  past zs h e = (ap (take u) e, ap (drop u) e ∙ (drop_all u xs h ∙ sym (drop_all u (replicate (length xs) b) (simp length-replicate h))))
+
+  -- a table whose part from u on, as far as it has one, was filled
+  pub cleared : (n : ℕ) (ys : List A) → n ≡ min u (length xs) → ys ≡ replicate (length (take (length xs - n) (drop n xs))) b →
+      Cleared (take n xs ++ (ys ++ drop (length xs - n) (drop n xs)))
+  cleared n ys m e =
+      let long : length (drop n xs) ≡ length xs - n = simp length-drop (omega arith) in
+      let none : drop (length xs - n) (drop n xs) ≡ [] = drop_all (length xs - n) (drop n xs) (omega arith) in
+      let size : length (take (length xs - n) (drop n xs)) ≡ length xs - n = simp (length-take, length-drop) (omega arith) in
+      let whole : take n xs ++ (ys ++ drop (length xs - n) (drop n xs)) ≡ take n xs ++ replicate (length xs - n) b =
+      ap (λ (t : List A). take n xs ++ (ys ++ t)) none ∙ ap (λ (t : List A). take n xs ++ t) (append-nil ys ∙ (e ∙ ap (λ (k : ℕ). replicate k b) size)) in
+      ⊎_elim
+      (λ (h : u < length xs). let z : n ≡ u = omega arith in
+      within _ h (whole ∙ ap (λ (k : ℕ). take k xs ++ replicate (length xs - k) b) z))
+      (λ (h : length xs ≤ u). let z : n ≡ length xs = omega arith in let y : length xs - n ≡ 0 = omega arith in
+      past _ h (whole ∙ (ap (λ (k : ℕ). take n xs ++ replicate k b) y ∙ (append-nil (take n xs) ∙ take_all n xs (let k : length xs ≤ n = omega arith in k)))))
+      (cases_lt u (length xs))
 
 module _ (text : List ℕ) (kinds : Stock) (sheet : Sheet) (types : List TypeEntry) (slots : List Slot) where
   -- the places of a blanked table are the table's

@@ -5,7 +5,6 @@ ghost use Rattle.checker.specs.Items.{AllIn};
 ghost use Rattle.checker.specs.Runs.{AfterBlank, Checked};
 
 use crate::run::run;
-use crate::tables::fill;
 use grammar::tree::Node;
 use language::spans::Span;
 use pantry::entries::Entry;
@@ -27,8 +26,8 @@ pub fn run_blank<'x>(
     requires room { length entries.now ≤ 64 }
     ensures { AfterBlank text.now tree.now close entries.now types.old slots.old result types.new slots.new }
 {
-    fill(types, 0, TypeEntry::Blank);
-    fill(slots, 0, Slot::Blank);
+    types.fill(TypeEntry::Blank);
+    slots.fill(Slot::Blank);
     let mut known = [Known { name: b"", of: 0 }; 64];
     let mut interfaces = [Interface {
         name: Span { place: 0, len: 0 },
@@ -64,15 +63,13 @@ pub fn check_tables<'x>(
 {
     match run_blank(text, tree, close, entries, types, slots) {
         Ok((ty, used)) => {
-            let n = used as usize;
-            if n < slots.len() {
-                fill(slots, n, Slot::Blank);
-            }
+            let declared = usize::from(used).min(slots.len());
+            slots[declared..].fill(Slot::Blank);
             Ok(ty)
         }
         Err(fault) => {
-            fill(types, 0, TypeEntry::Blank);
-            fill(slots, 0, Slot::Blank);
+            types.fill(TypeEntry::Blank);
+            slots.fill(Slot::Blank);
             Err(fault)
         }
     }

@@ -31,7 +31,7 @@ fn check_entries(
         sheet.text,
         sheet.tree,
         sheet.close,
-        &*entries,
+        entries,
         &mut types[0..t],
         &mut slots[0..s],
     )

@@ -21,6 +21,7 @@ pub fn copy_entries<'n, P: Pantry>(pantry: &'n P, table: &mut [Entry<'n>]) -> us
     ensures rest { drop result table.new ≡ drop result table.old }
 {
     let count = pantry.count().min(table.len());
+    // By number: a pantry has no list of its entries to go along.
     for i in 0..count {
         if let Some(entry) = pantry.entry(i) {
             table[i] = entry;

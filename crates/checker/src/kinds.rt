@@ -42,8 +42,7 @@ fn all_kinds<'n>(
         AfterKinds tables.old.given.text.now base tp sp entries.now (enter_all tp sp (kind_types (stock_in entries.now)) ts)
         result known.new (state_of tables.new) }
 {
-    for i in 0..entries.len() {
-        let entry = entries[i];
+    for (i, entry) in entries.iter().enumerate() {
         let of = kind_number(tables, entry.kind)?;
         known[i] = Known {
             name: entry.name,

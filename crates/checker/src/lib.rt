@@ -10,7 +10,6 @@ mod modules;
 pub mod passes;
 mod run;
 mod sheets;
-mod tables;
 
 pub use checks::{check, pass};
 pub use copying::copy_entries;

@@ -27,11 +27,8 @@ pub struct Progress {
 fn ended(node: Node) -> Option<Span>
     ensures { result ≡ end_of node }
 {
-    let Node::Item(item) = node else {
-        return None;
-    };
-    match item {
-        Item::Module { name, .. } => Some(name),
+    match node {
+        Node::Item(Item::Module { name, .. }) => Some(name),
         _ => None,
     }
 }
@@ -40,12 +37,9 @@ fn ended(node: Node) -> Option<Span>
 fn module_end(tree: &[Node], start: usize) -> Option<(usize, Span)>
     ensures { result ≡ module_end start (drop start tree.now) }
 {
-    let mut k = start;
-    while k < tree.len() {
-        let node = tree[k];
-        match ended(node) {
-            Some(name) => return Some((k, name)),
-            None => k += 1,
+    for k in start..tree.len() {
+        if let Some(name) = ended(tree[k]) {
+            return Some((k, name));
         }
     }
     None

@@ -6,7 +6,7 @@ pub returns-in-Some : goal.returns-in-Some
 returns-in-Some c = sym (c.loop-k.invariant ∙ end-here _ _ _ _ c.loop-k-test.true (sym c.in-Some.ensures))
 
 pub loop-k-preserved : goal.loop-k-preserved
-loop-k-preserved c = c.loop-k.invariant ∙ end_on _ _ _ c.loop-k-test.true (sym c.in-None.ensures)
+loop-k-preserved c = c.loop-k.invariant ∙ end_on _ _ _ c.loop-k-test.true (sym c.in_default.ensures)
 
 pub returns : goal.returns
 returns c =
