@@ -1,46 +1,27 @@
--- What an answer of the cursor says, from what is read behind the gap that the code has passed. Assumes nothing.
-use Rattle.std.proofs.Common.{◌≡◌, ℕ, ◌+◌, ◌<◌, ◌≤◌, false, List, length, drop, Some, None, Ok, Err, Option, Result, sym, ap, ◌∙◌, subst, arith, length-drop}
-use Rattle.words.specs.declared.faults.Fault.{Fault}
+-- What an answer of the cursor says, from what is read at the place p, where the gap has been passed. Assumes nothing.
+use Rattle.std.proofs.Common.{◌≡◌, ℕ, ◌+◌, ◌<◌, ◌≤◌, false, List, length, drop, Some, Ok, Option, sym, ap, ◌∙◌, subst, arith, length-drop}
 use Rattle.words.specs.declared.tokens.Token.{Token}
 use Rattle.words.specs.Words.{gap, first, start, scan, behind, next_place, There, Small}
 use Rattle.words.specs.Shown.{shown, width_of, Part}
 use Rattle.words.proofs.Parts.{ended, there}
 use Rattle.words.proofs.Sizes.{small}
 
-module _ (text : List ℕ) (at n : ℕ) (skipped : n ≡ gap false (drop at text)) (r : Result (Option Token) Fault)
-    (told : shown r ≡ first (at + n) (drop (at + n) text)) where
-  start_is : at + n ≡ start text at
+module _ (text : List ℕ) (p : ℕ) (o : Option Token) (told : shown (Ok o) ≡ first p (drop p text)) where
+  pub is-small : Small (shown (Ok o))
+  is-small = subst Small (sym told) (small p (drop p text))
+
+  pub is-part : (at : ℕ) → p ≡ at + gap false (drop at text) → Part text at (Ok o)
   unfolding start
-  start_is = ap (λ m. at + m) skipped
+  is-part at e = subst (λ q. There q (drop q text) (shown (Ok o))) e (subst (There p (drop p text)) (sym told) (there p (drop p text)))
 
-  pub reads : shown r ≡ scan text at
-  unfolding scan
-  reads = told ∙ ap (λ p. first p (drop p text)) start_is
+  -- where the cursor stands then
+  pub stands : (at : ℕ) → p ≡ at + gap false (drop at text) → behind p (shown (Ok o)) ≡ next_place text at
+  unfolding start scan
+  stands at e = ap (behind p) told ∙ ap (λ q. behind q (first q (drop q text))) e
 
-  pub is-small : Small (shown r)
-  unfolding scan
-  is-small = subst Small (sym reads) (small (start text at) (drop (start text at) text))
-
-  pub is-part : Part text at r
-  unfolding scan
-  is-part = subst (There (start text at) (drop (start text at) text)) (sym reads) (there (start text at) (drop (start text at) text))
-
-  place_is : behind (at + n) (shown r) ≡ next_place text at
-  place_is = ap (behind (at + n)) reads ∙ ap (λ p. behind p (scan text at)) start_is
-
-  -- a token moves the cursor behind it
-  pub moved : (t : Token) → r ≡ Ok (Some t)
-      → (at + n + width_of t ≡ next_place text at) × (at + n + width_of t ≤ length text) × (at < at + n + width_of t)
-  moved t e =
-      let (ends, fits, some) = ended (at + n) (drop (at + n) text) t (ap shown (sym e) ∙ told) in (
-        ends ∙ ap (behind (at + n)) (sym told) ∙ place_is,
-        omega (arith, length-drop (at + n) text),
-        omega arith,
-      )
-
-  -- at the end and at a fault it stays where the gap ends
-  pub at-end : r ≡ Ok None → at + n ≡ next_place text at
-  at-end e = ap (λ a. behind (at + n) (shown a)) (sym e) ∙ place_is
-
-  pub at-fault : (f : Fault) → r ≡ Err f → at + n ≡ next_place text at
-  at-fault f e = ap (λ a. behind (at + n) (shown a)) (sym e) ∙ place_is
+  -- a token ends within the text, farther on
+  pub ahead : (t : Token) → o ≡ Some t
+      → (p + width_of t ≡ behind p (shown (Ok o))) × (p + width_of t ≤ length text) × (p < p + width_of t)
+  ahead t e =
+      let (ends, fits, some) = ended p (drop p text) t (ap (λ x. shown (Ok x)) (sym e) ∙ told) in
+      (ends ∙ ap (behind p) (sym told), omega (arith, length-drop p text), omega arith)

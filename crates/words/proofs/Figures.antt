@@ -1,6 +1,6 @@
 -- Two ways in which a number is read. Assumes nothing.
-use Rattle.std.proofs.Common.{◌≡◌, ℕ, ◌+◌, ◌≤◌, Bool, true, false, cond, eqb, leb, List, get_or, take, drop, pos, neg_ℤ, Some, None, Option, sym, refl, ap, ◌∙◌, arith}
-use Rattle.std.proofs.lemmas.Bool.{cond-true, cond-false, eq-eqb, leb-true}
+use Rattle.std.proofs.Common.{◌≡◌, ℕ, ◌+◌, Bool, true, false, cond, eqb, leb, List, get_or, take, drop, pos, neg_ℤ, Some, None, Option, sym, refl, ap, ◌∙◌, arith}
+use Rattle.std.proofs.lemmas.Bool.{cond-true, cond-false}
 use Rattle.words.specs.Classes.{class_of}
 use Rattle.words.specs.Words.{digit_run, is_letter, value, largest, figured, numbered, size_within, figure_within}
 use Rattle.words.specs.Words.Kind.{number}
@@ -42,19 +42,3 @@ by_sign w t e =
 
 pub unsigned : (w : List ℕ) → eqb (get_or w 0 0) 45 ≡ false → figure_within w ≡ cond (leb (value w) largest) (Some (pos (value w))) None
 unsigned w h = by_sign w false h
-
-module _ (w : List ℕ) (dash : get_or w 0 0 ≡ 45) where
-  signed : figure_within w ≡ cond (leb (value (drop 1 w)) largest) (Some (neg_ℤ (pos (value (drop 1 w))))) None
-  signed = by_sign w true (eq-eqb (get_or w 0 0) 45 dash)
-
-  pub negative : (n : ℕ) → Some n ≡ size_within (drop 1 w) → (Some (neg_ℤ (pos n)) ≡ figure_within w) × (n ≤ largest)
-  negative n e =
-      let (small, same) = some-within (drop 1 w) n e in (
-        ap (λ m. Some (neg_ℤ (pos m))) same
-            ∙ sym (signed ∙ cond-true _ _ _ small),
-        omega (arith, same, leb-true (value (drop 1 w)) largest small),
-      )
-
-  pub no-negative : None ≡ size_within (drop 1 w) → None ≡ figure_within w
-  no-negative e = sym (signed ∙ cond-false (leb (value (drop 1 w)) largest) (Some (neg_ℤ (pos (value (drop 1 w))))) None
-      (none_within (drop 1 w) e))

@@ -1,6 +1,10 @@
 ghost use Rattle.std.specs.Prelude.{◌≡◌, true};
 ghost use Rattle.words.specs.Classes.{class_of, keeps_rule};
 
+use self::Class::{
+    Blank as B, Dash as H, Digit as D, Letter as L, Mark as M, None as N, Percent as P, Query as Q,
+};
+
 // What a byte may begin or go on with.
 #[derive(Clone, Copy, Debug, PartialEq, Eq)]
 pub enum Class {
@@ -13,22 +17,6 @@ pub enum Class {
     Query,
     Mark,
 }
-
-const N: Class = Class::None;
-
-const B: Class = Class::Blank;
-
-const P: Class = Class::Percent;
-
-const L: Class = Class::Letter;
-
-const D: Class = Class::Digit;
-
-const H: Class = Class::Dash;
-
-const Q: Class = Class::Query;
-
-const M: Class = Class::Mark;
 
 // The class of each byte value, sixteen to a row.
 const CLASSES: &[[Class; 16]; 16] = &[

@@ -92,6 +92,7 @@ impl<'a> Cursor<'a> {
     }
 
     // The next word, or none at the text's end, or a fault, at which the reader stays.
+    #[tactic(auto, unfolding(crate::specs::Words::scan, crate::specs::Words::start))]
     pub fn next(&mut self) -> Result<Option<Token<'a>>, Fault>
         ensures reads { shown result ≡ scan self.old.text.now self.old.at }
         ensures stands { self.new.at ≡ next_place self.old.text.now self.old.at }

@@ -1,6 +1,6 @@
-use Rattle.std.proofs.Common.{◌≡◌, ℕ, ◌+◌, ◌-◌, ◌*◌, ◌<◌, List, get_or, drop, Some, fold, sym, ap, ◌∙◌, arith}
-use Rattle.std.proofs.lemmas.List.{at_drop_more, at_drop_all}
-use Rattle.std.proofs.lemmas.Bool.{le-leb, lt-leb, cond-true, cond-false}
+use Rattle.std.proofs.Common.{ℕ, ◌+◌, ◌-◌, ◌*◌, ◌<◌, List, get_or, drop, fold, sym, arith}
+use Rattle.std.proofs.lemmas.List.{at_drop_more}
+use Rattle.std.proofs.lemmas.Bool.{lt-leb, cond-false}
 use Rattle.words.specs.Words.{value, largest}
 use Rattle.words.proofs.Runs.{grows}
 use Rattle.words.proofs.numbers.magnitude.Goals as goal
@@ -19,20 +19,3 @@ returns-then-size-gt-LARGEST c =
       grows rest (c.loop-digit.size * 10 + (digit - 48)),
     ) in
     sym (cond-false _ _ _ (lt-leb (value c.args.digits.now) largest large))
-
-pub loop-digit-preserved : goal.loop-digit-preserved
-loop-digit-preserved c = (
-  omega arith,
-  ap (λ z. onward (c.loop-digit.size * 10 + z) (drop (c.loop-digit.digit-index + 1) c.args.digits.now))
-      (c.from.ensures ∙ c.saturating_sub.ensures)
-      ∙ sym (at_drop_more (onward c.loop-digit.size) c.args.digits.now c.loop-digit.digit-index 0 c.loop-digit-test.true)
-      ∙ c.loop-digit.invariant.1,
-)
-
-pub returns : goal.returns
-returns c =
-    let same : c.loop-digit.size ≡ value c.args.digits.now =
-    sym (at_drop_all (onward c.loop-digit.size) c.args.digits.now c.loop-digit.digit-index c.loop-digit-test.false)
-    ∙ c.loop-digit.invariant.1 in
-    ap (λ n. Some n) same ∙ sym (cond-true _ _ _
-    (le-leb (value c.args.digits.now) largest (omega (arith, c.loop-digit.invariant.0, same))))
