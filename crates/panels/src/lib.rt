@@ -1,38 +1,26 @@
 // From the bytes of a sheet to the line that is printed.
 #![tactic(auto)]
 
-ghost use Rattle.std.specs.Prelude.{◌≡◌, ℕ, ◌<◌, IfOk, string_bytes};
+ghost use Rattle.std.specs.Prelude.{◌≡◌, IfOk, string_bytes};
+ghost use Rattle.grammar.specs.Faults.{refusal_of};
 ghost use Rattle.grammar.specs.Reading.{reading};
 ghost use Rattle.grammar.specs.Read.{limit_of};
-ghost use Rattle.grammar.specs.declared.faults.Layer.TheVariants.{Words, Grammar};
-ghost use Rattle.panels.specs.Lines.{answer_bytes, line_of, read_bytes, refused_bytes};
+ghost use Rattle.panels.specs.Lines.{answer_bytes, line_of, read_bytes, refusal_bytes};
 
 use grammar::read::read;
-use grammar::{Fault, Layer, Node};
+use grammar::{Fault, Node};
 use std::alloc::{AllocError, Global};
 
-// The line on a text that the words refuse.
-fn refused_by_words(heap: Global, number: u8, place: usize) -> Result<String, AllocError>
-    ensures { IfOk result (λ s. string_bytes s ≡ refused_bytes number place Words) }
-{
-    format!(in heap; "refused {number} at {place} by words")
-}
-
-// The line on a text that the grammar refuses.
-fn refused_by_grammar(heap: Global, number: u8, place: usize) -> Result<String, AllocError>
-    ensures { IfOk result (λ s. string_bytes s ≡ refused_bytes number place Grammar) }
-{
-    format!(in heap; "refused {number} at {place} by grammar")
-}
-
 // The line on a text that is refused.
-fn refused(heap: Global, number: u8, place: usize, layer: Layer) -> Result<String, AllocError>
-    ensures { IfOk result (λ s. string_bytes s ≡ refused_bytes number place layer) }
+fn refused(heap: Global, fault: Fault) -> Result<String, AllocError>
+    ensures { IfOk result (λ s. string_bytes s ≡ refusal_bytes (refusal_of fault)) }
 {
-    match layer {
-        Layer::Words => refused_by_words(heap, number, place),
-        Layer::Grammar => refused_by_grammar(heap, number, place),
-    }
+    format!(in heap;
+        "refused {} at {} by {}",
+        fault.number(),
+        fault.place(),
+        fault.layer()
+    )
 }
 
 // The line on a text that was read, with the number of its nodes.
@@ -48,12 +36,7 @@ fn told(heap: Global, answer: Result<u16, Fault>) -> Result<String, AllocError>
 {
     match answer {
         Ok(close) => counted(heap, u32::from(close) + 1),
-        Err(fault) => refused(
-            heap,
-            fault.number(),
-            fault.place(),
-            fault.layer(),
-        ),
+        Err(fault) => refused(heap, fault),
     }
 }
 

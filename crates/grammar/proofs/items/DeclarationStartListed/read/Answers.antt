@@ -20,7 +20,6 @@ returns-in_err-begun c =
     }
 
 pub returns-in-Opaque : goal.returns-in-Opaque
-unfolding declaration_m
 returns-in-Opaque c =
     let d = c.opaque_type.ensures in
     record {
@@ -30,7 +29,6 @@ returns-in-Opaque c =
     }
 
 pub returns-in-Transparent : goal.returns-in-Transparent
-unfolding declaration_m
 returns-in-Transparent c =
     let d = c.transparent_type.ensures in
     record {
@@ -40,7 +38,6 @@ returns-in-Transparent c =
     }
 
 pub returns-in-Value : goal.returns-in-Value
-unfolding declaration_m
 returns-in-Value c =
     let d = c.declared.ensures in
     record {

@@ -20,7 +20,6 @@ returns-in_err-begun c =
     }
 
 pub returns-in-Named : goal.returns-in-Named
-unfolding definition_m
 returns-in-Named c =
     let d = c.type_is.ensures in
     record {
@@ -30,7 +29,6 @@ returns-in-Named c =
     }
 
 pub returns-in-Value : goal.returns-in-Value
-unfolding definition_m
 returns-in-Value c =
     let d = c.value_is.ensures in
     record {
