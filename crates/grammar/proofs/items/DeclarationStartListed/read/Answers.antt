@@ -2,7 +2,7 @@ use Rattle.std.proofs.Common.{arith, rules}
 use Rattle.std.proofs.lemmas.Result.{err_from_is_err_and}
 use Rattle.grammar.specs.Productions.{a_declaration}
 use Rattle.grammar.specs.Starts.{declaration_start}
-use Rattle.grammar.specs.Laying.{from_m, declaration_m}
+use Rattle.grammar.specs.Laying.{from_m}
 use Rattle.grammar.specs.Readers.{state_of}
 use Rattle.grammar.proofs.Gives.{started-err}
 use Rattle.grammar.proofs.Froms.{declaration-none, declaration-from}
