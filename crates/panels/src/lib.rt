@@ -2,41 +2,26 @@
 #![tactic(auto)]
 
 ghost use Rattle.std.specs.Prelude.{◌≡◌, IfOk, string_bytes};
-ghost use Rattle.grammar.specs.Faults.{refusal_of};
 ghost use Rattle.grammar.specs.Reading.{reading};
 ghost use Rattle.grammar.specs.Read.{limit_of};
-ghost use Rattle.panels.specs.Lines.{answer_bytes, line_of, read_bytes, refusal_bytes};
+ghost use Rattle.panels.specs.Lines.{answer_bytes, line_of};
 
 use grammar::read::read;
 use grammar::{Fault, Node};
 use std::alloc::{AllocError, Global};
 
-// The line on a text that is refused.
-fn refused(heap: Global, fault: Fault) -> Result<String, AllocError>
-    ensures { IfOk result (λ s. string_bytes s ≡ refusal_bytes (refusal_of fault)) }
-{
-    format!(in heap;
-        "refused {} at {} by {}",
-        fault.number(),
-        fault.place(),
-        fault.layer()
-    )
-}
-
-// The line on a text that was read, with the number of its nodes.
-fn counted(heap: Global, places: u32) -> Result<String, AllocError>
-    ensures { IfOk result (λ s. string_bytes s ≡ read_bytes places) }
-{
-    format!(in heap; "read {places}")
-}
-
-// The line that tells what the reader answered.
+// The line that tells what the reader answered: how many nodes it read, or the refusal.
 fn told(heap: Global, answer: Result<u16, Fault>) -> Result<String, AllocError>
     ensures { IfOk result (λ s. string_bytes s ≡ answer_bytes answer) }
 {
     match answer {
-        Ok(close) => counted(heap, u32::from(close) + 1),
-        Err(fault) => refused(heap, fault),
+        Ok(close) => format!(in heap; "read {}", u32::from(close) + 1),
+        Err(fault) => format!(in heap;
+            "refused {} at {} by {}",
+            fault.number(),
+            fault.place(),
+            fault.layer()
+        ),
     }
 }
 
