@@ -1,14 +1,12 @@
 -- One step of a form, as it is read and laid.
 use Rattle.std.proofs.Common.{◌≡◌, ℕ, suc, ◌+◌, Bool, true, false, cond, ltb, List, set, sym, refl, arith}
 use Rattle.language.specs.declared.spans.Span.{Span}
-use Rattle.words.specs.declared.keywords.Keyword.{Keyword}
-use Rattle.words.specs.declared.marks.Mark.{Mark}
 use Rattle.grammar.specs.declared.tree.Node.{Node}
 use Rattle.grammar.specs.Syntax.{Name, places}
-use Rattle.grammar.specs.Productions.{Sort, Part, inner, sign, «the», a_name}
+use Rattle.grammar.specs.Productions.{Single, Held, Sort, Part, inner, a_name}
 use Rattle.grammar.specs.Reading.{Out, bad, good, bind, room, steps, single, many, read_part}
 use Rattle.grammar.specs.Table.{span_of, lay_of}
-use Rattle.grammar.specs.Laying.{State, Outcome, refused, done, after, M, lay, lifted, part_laid, word_m, mark_m, key_m, name_m, place_m, part_m, many_f}
+use Rattle.grammar.specs.Laying.{State, Outcome, refused, done, after, M, lay, lifted, part_laid, word_m, name_m, place_m, part_m, many_f}
 use Rattle.grammar.specs.Laying.{many_m}
 use Rattle.grammar.specs.Readers.{moved}
 
@@ -63,29 +61,17 @@ module _ (S : Sort) (v0 : State) where
   word-step v value K G z h (bad k e) = sym (z k e)
   word-step v value K G z h (good a q) = h a q
 
-  pub mark-then : (v : State) (m : Mark) (K : Unit → ℕ → Out (Part S)) (k : Unit → M ℕ)
-      → ((q : ℕ) → part_laid S (K tt q) v0 ≡ k tt (moved v q))
-      → part_laid S (bind (single (sign m) (steps v.text) v.at) K) v0 ≡ after (mark_m m v) k
+  pub word-then : (v : State) (m : Single) (K : Held m → ℕ → Out (Part S)) (k : Unit → M ℕ)
+      → ((x : Held m) (q : ℕ) → part_laid S (K x q) v0 ≡ k tt (moved v q))
+      → part_laid S (bind (single m (steps v.text) v.at) K) v0 ≡ after (word_m m v) k
   unfolding word_m
-  mark-then v m K k h = word-step v (λ _. tt) K (λ o. after o k) (λ n e. refl) (λ _ q. h q) _
+  word-then v m K k h = word-step v (λ _. tt) K (λ o. after o k) (λ n e. refl) h _
 
-  pub mark-in : {A : Type 0} (v : State) (m : Mark) (K : Unit → ℕ → Out (Part S)) (f : Unit → M A) (k : A → M ℕ)
-      → ((q : ℕ) → part_laid S (K tt q) v0 ≡ after (f tt (moved v q)) k)
-      → part_laid S (bind (single (sign m) (steps v.text) v.at) K) v0 ≡ after (after (mark_m m v) f) k
+  pub word-in : {A : Type 0} (v : State) (m : Single) (K : Held m → ℕ → Out (Part S)) (f : Unit → M A) (k : A → M ℕ)
+      → ((x : Held m) (q : ℕ) → part_laid S (K x q) v0 ≡ after (f tt (moved v q)) k)
+      → part_laid S (bind (single m (steps v.text) v.at) K) v0 ≡ after (after (word_m m v) f) k
   unfolding word_m
-  mark-in v m K f k h = word-step v (λ _. tt) K (λ o. after (after o f) k) (λ n e. refl) (λ _ q. h q) _
-
-  pub key-then : (v : State) (j : Keyword) (K : Unit → ℕ → Out (Part S)) (k : Unit → M ℕ)
-      → ((q : ℕ) → part_laid S (K tt q) v0 ≡ k tt (moved v q))
-      → part_laid S (bind (single («the» j) (steps v.text) v.at) K) v0 ≡ after (key_m j v) k
-  unfolding word_m
-  key-then v j K k h = word-step v (λ _. tt) K (λ o. after o k) (λ n e. refl) (λ _ q. h q) _
-
-  pub key_in : {A : Type 0} (v : State) (j : Keyword) (K : Unit → ℕ → Out (Part S)) (f : Unit → M A) (k : A → M ℕ)
-      → ((q : ℕ) → part_laid S (K tt q) v0 ≡ after (f tt (moved v q)) k)
-      → part_laid S (bind (single («the» j) (steps v.text) v.at) K) v0 ≡ after (after (key_m j v) f) k
-  unfolding word_m
-  key_in v j K f k h = word-step v (λ _. tt) K (λ o. after (after o f) k) (λ n e. refl) (λ _ q. h q) _
+  word-in v m K f k h = word-step v (λ _. tt) K (λ o. after (after o f) k) (λ n e. refl) h _
 
   pub name-then : (v : State) (K : Name → ℕ → Out (Part S)) (k : Span → M ℕ)
       → ((x : Name) (q : ℕ) → part_laid S (K x q) v0 ≡ k (span_of x) (moved v q))

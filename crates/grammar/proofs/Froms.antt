@@ -246,7 +246,6 @@ module _ (text : List ℕ) where
 
 -- a type by its form
 type-form : (v : State) (at l : ℕ) (b : TypeStart) → WholeT v.text (Some b) → form_m a_type (open_t v.text b) at l v ≡ type_m at l b v
-unfolding type_m
 type-form v at l tstart.Int w = place-last a_type v v.at v.used v.table _ (node.«Type» (ty.Int at)) at (omega arith) refl
 type-form v at l tstart.Bool w = place-last a_type v v.at v.used v.table _ (node.«Type» (ty.Bool at)) at (omega arith) refl
 type-form v at l (tstart.Named x) w =
@@ -257,7 +256,6 @@ type-form v at l tstart.Arrow w = arrow-form at l v
 
 -- an expression by its form
 exp-form : (v : State) (at l : ℕ) (b : ExpStart) → WholeE v.text (Some b) → form_m an_exp (open_e v.text b) at l v ≡ exp_m at l b v
-unfolding exp_m
 exp-form v at l (estart.Number z) w = place-last an_exp v v.at v.used v.table _ (node.Expression (ex.Number at z)) at
     (omega arith) refl
 exp-form v at l (estart.Boolean true) w = place-last an_exp v v.at v.used v.table _ (node.Expression (ex.Boolean at true)) at
@@ -320,7 +318,6 @@ module _ (v : State) (n : Next) (l : ℕ) where
 -- a declaration by its form
 declaration-form : (v : State) (at l : ℕ) (b : DeclarationStart) → WholeD v.text (Some b)
     → form_m a_declaration (open_d v.text b) at l v ≡ declaration_m at l b v
-unfolding declaration_m
 declaration-form v at l dstart.Opaque w = opaque-form at l v
 declaration-form v at l dstart.Transparent w = transparent-form at l v
 declaration-form v at l (dstart.Value x) w = declared-form (name_in v.text x) at l v
@@ -329,7 +326,6 @@ declaration-form v at l (dstart.Value x) w = declared-form (name_in v.text x) at
 -- a definition by its form
 definition-form : (v : State) (at l : ℕ) (b : DefinitionStart) → WholeF v.text (Some b) → form_m a_definition (open_f v.text b) at l v
     ≡ definition_m at l b v
-unfolding definition_m
 definition-form v at l fstart.Named w = type-is-form at l v
 definition-form v at l (fstart.Value x) w = value-is-form (name_in v.text x) at l v
     ∙ ap (λ z. value_is_m z at l v) (span-back v.text v.at x w)

@@ -1,10 +1,15 @@
 -- What each fault tells: its number, its place and its layer. Assumes nothing.
-use Rattle.std.specs.Prelude.{ℕ, cond, Some, None, Ok, Err, Option, Result, nat_le}
+use Rattle.std.specs.Prelude.{ℕ, List, codes, cond, Some, None, Ok, Err, Option, Result, nat_le}
 use Rattle.words.specs.Shown as words
 use Rattle.grammar.specs.declared.faults.Layer.{Layer}
 use Rattle.grammar.specs.declared.faults.Layer.TheVariants as in-layer
 use Rattle.grammar.specs.declared.faults.Fault.{Fault}
 use Rattle.grammar.specs.declared.faults.Fault.TheVariants.{Word, Unexpected, TooDeep, TooManyModules, TreeFull}
+
+-- a layer's name, as it is printed
+abbrev pub layer_name : Layer → List ℕ
+layer_name in-layer.Words = codes "words"
+layer_name in-layer.Grammar = codes "grammar"
 
 -- what a refusal tells
 pub record Refusal : Type 0 where

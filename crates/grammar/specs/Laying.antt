@@ -145,7 +145,7 @@ arrow_m at l = do
   place_m (node.«Type» (ty.Arrow at a b)) at
 
 -- a type by its form
-unfoldable pub type_m : ℕ → ℕ → TypeStart → M ℕ
+abbrev pub type_m : ℕ → ℕ → TypeStart → M ℕ
 type_m at l tstart.Int = place_m (node.«Type» (ty.Int at)) at
 type_m at l tstart.Bool = place_m (node.«Type» (ty.Bool at)) at
 type_m at l (tstart.Named x) = place_m (node.«Type» (ty.Named x)) at
@@ -243,7 +243,7 @@ binary_m at o l = do
   place_m (node.Expression (ex.Binary at o ab.0 ab.1)) at
 
 -- an expression by its form
-unfoldable pub exp_m : ℕ → ℕ → ExpStart → M ℕ
+abbrev pub exp_m : ℕ → ℕ → ExpStart → M ℕ
 exp_m at l (estart.Number v) = place_m (node.Expression (ex.Number at v)) at
 exp_m at l (estart.Boolean b) = place_m (node.Expression (ex.Boolean at b)) at
 exp_m at l (estart.Variable x) = place_m (node.Expression (ex.Variable x)) at
@@ -294,7 +294,7 @@ declared_m x at l = do
   place_m (node.Item (item.Declared x a)) at
 
 -- a declaration by its form
-unfoldable pub declaration_m : ℕ → ℕ → DeclarationStart → M ℕ
+abbrev pub declaration_m : ℕ → ℕ → DeclarationStart → M ℕ
 declaration_m at l dstart.Opaque = opaque_m at
 declaration_m at l dstart.Transparent = transparent_m at l
 declaration_m at l (dstart.Value x) = declared_m x at l
@@ -313,30 +313,23 @@ value_is_m x at l = do
   place_m (node.Item (item.ValueIs x e)) at
 
 -- a definition by its form
-unfoldable pub definition_m : ℕ → ℕ → DefinitionStart → M ℕ
+abbrev pub definition_m : ℕ → ℕ → DefinitionStart → M ℕ
 definition_m at l fstart.Named = type_is_m at l
 definition_m at l (fstart.Value x) = value_is_m x at l
 
--- `interface [` declarations `]`
-abbrev pub interface_m : M Unit
-interface_m = do
-  key_m kw.Interface
+-- a keyword and the list that it heads, `[` parts `]`
+abbrev pub headed_m : Keyword → Sort → M Unit
+headed_m k s = do
+  key_m k
   mark_m mk.Begin
-  many_m a_declaration
-
--- `body [` definitions `]`
-abbrev pub body_m : M Unit
-body_m = do
-  key_m kw.Body
-  mark_m mk.Begin
-  many_m a_definition
+  many_m s
 
 -- a module behind its first word
 abbrev pub module_m : ℕ → M ℕ
 module_m at = do
   m ← name_m
-  interface_m
-  body_m
+  headed_m kw.Interface a_declaration
+  headed_m kw.Body a_definition
   place_m (node.Item (item.Module at m)) at
 
 -- how a sheet is laid from the place u on

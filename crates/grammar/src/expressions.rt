@@ -13,7 +13,7 @@ use crate::tree::{ExpNode, Node, Operator};
 use words::{Keyword, Mark};
 
 impl Reader<'_, '_> {
-    // An expression of at most `levels` levels.
+    // An expression of at most `levels` levels. Not one generic function with `ty`: no trait's method may lead back to its caller.
     #[cycle(expressions)]
     pub fn expression(&mut self, levels: u8) -> Result<u16, Fault>
         ensures { Gives (part_m an_exp levels) result self.old self.new }

@@ -1,7 +1,8 @@
-ghost use Rattle.std.specs.Prelude.{◌≡◌};
+ghost use Rattle.std.specs.Prelude.{◌≡◌, Some};
 ghost use Rattle.grammar.specs.declared.faults.Fault.TheVariants.{Word};
-ghost use Rattle.grammar.specs.Faults.{refusal_of};
+ghost use Rattle.grammar.specs.Faults.{layer_name, refusal_of};
 
+use std::fmt;
 use words::Fault as WordFault;
 
 // Why a text is refused, with the place: an unlawful word, a word or an end of the text with which no sheet goes on, a 49th level, a 33rd
@@ -20,6 +21,17 @@ pub enum Fault {
 pub enum Layer {
     Words,
     Grammar,
+}
+
+impl fmt::Display for Layer {
+    ghost output = { λ layer. Some (layer_name layer) };
+
+    fn fmt<W: fmt::Write>(&self, f: &mut fmt::Formatter<W>) -> fmt::Result {
+        f.write_str(match self {
+            Layer::Words => "words",
+            Layer::Grammar => "grammar",
+        })
+    }
 }
 
 impl From<WordFault> for Fault {

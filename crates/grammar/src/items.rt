@@ -3,13 +3,13 @@ ghost use Rattle.grammar.specs.Productions.{Sort, a_declaration, a_definition};
 ghost use Rattle.grammar.specs.Steps.{Whole};
 ghost use Rattle.grammar.specs.Readers.{text_of, Gives};
 ghost use Rattle.grammar.specs.Laying.{from_m, many_m, opaque_m, equated_m, transparent_m, declared_m, type_is_m, value_is_m};
-ghost use Rattle.grammar.specs.Laying.{interface_m, body_m, module_m};
+ghost use Rattle.grammar.specs.Laying.{headed_m, module_m};
 
 use crate::expected::Expected;
 use crate::faults::Fault;
 use crate::forms::{DeclarationStart, DefinitionStart};
 use crate::next::Next;
-use crate::reader::Reader;
+use crate::reader::{LEVELS, Reader};
 use crate::starts::begun;
 use crate::tree::{Item, Node};
 use language::spans::Span;
@@ -30,7 +30,7 @@ impl Listed for DeclarationStart {
 
     fn read(reader: &mut Reader, first: Next) -> Result<u16, Fault> {
         let at = first.place();
-        match begun(first, 49)? {
+        match begun(first, LEVELS + 1)? {
             DeclarationStart::Opaque => reader.opaque_type(at),
             DeclarationStart::Transparent => reader.transparent_type(at),
             DeclarationStart::Value(name) => reader.declared(name, at),
@@ -43,7 +43,7 @@ impl Listed for DefinitionStart {
 
     fn read(reader: &mut Reader, first: Next) -> Result<u16, Fault> {
         let at = first.place();
-        match begun(first, 49)? {
+        match begun(first, LEVELS + 1)? {
             DefinitionStart::Named => reader.type_is(at),
             DefinitionStart::Value(name) => reader.value_is(name, at),
         }
@@ -64,7 +64,7 @@ impl Reader<'_, '_> {
     {
         let name = self.name()?;
         self.expect(Mark::Equal)?;
-        let is = self.ty(48)?;
+        let is = self.ty(LEVELS)?;
         Ok((name, is))
     }
 
@@ -82,11 +82,12 @@ impl Reader<'_, '_> {
         self.place(Node::Item(Item::TypeIs { at, name, is }), at)
     }
 
+    // Not one function with `value_is`: the mark, the part and the node all differ.
     fn declared(&mut self, name: Span, at: u16) -> Result<u16, Fault>
         ensures { Gives (declared_m name at 48) result self.old self.new }
     {
         self.expect(Mark::Colon)?;
-        let of = self.ty(48)?;
+        let of = self.ty(LEVELS)?;
         self.place(Node::Item(Item::Declared { name, of }), at)
     }
 
@@ -94,7 +95,7 @@ impl Reader<'_, '_> {
         ensures { Gives (value_is_m name at 48) result self.old self.new }
     {
         self.expect(Mark::Equal)?;
-        let is = self.expression(48)?;
+        let is = self.expression(LEVELS)?;
         self.place(Node::Item(Item::ValueIs { name, is }), at)
     }
 
@@ -111,20 +112,13 @@ impl Reader<'_, '_> {
         }
     }
 
-    fn interface(&mut self) -> Result<(), Fault>
-        ensures { Gives (interface_m) result self.old self.new }
+    // A keyword and the list that it heads, in brackets.
+    fn headed<L: Listed>(&mut self, head: Keyword) -> Result<(), Fault>
+        ensures { Gives (headed_m head L.sort) result self.old self.new }
     {
-        self.expect(Keyword::Interface)?;
+        self.expect(head)?;
         self.expect(Mark::Begin)?;
-        self.list::<DeclarationStart>()
-    }
-
-    fn body(&mut self) -> Result<(), Fault>
-        ensures { Gives (body_m) result self.old self.new }
-    {
-        self.expect(Keyword::Body)?;
-        self.expect(Mark::Begin)?;
-        self.list::<DefinitionStart>()
+        self.list::<L>()
     }
 
     // A module behind its first word, which stands at `at`.
@@ -132,8 +126,8 @@ impl Reader<'_, '_> {
         ensures { Gives (module_m at) result self.old self.new }
     {
         let name = self.name()?;
-        self.interface()?;
-        self.body()?;
+        self.headed::<DeclarationStart>(Keyword::Interface)?;
+        self.headed::<DefinitionStart>(Keyword::Body)?;
         self.place(Node::Item(Item::Module { at, name }), at)
     }
 }

@@ -6,7 +6,7 @@ ghost use Rattle.grammar.specs.Laying.{end_m, closing_m, sheet_m};
 use crate::expected::Expected;
 use crate::faults::Fault;
 use crate::next::Next;
-use crate::reader::Reader;
+use crate::reader::{LEVELS, MODULES, Reader};
 use words::Keyword;
 
 impl Reader<'_, '_> {
@@ -26,7 +26,7 @@ impl Reader<'_, '_> {
         requires { Whole (text_of self.old) first }
         ensures { Gives (closing_m first) result self.old self.new }
     {
-        let close = self.expression_from(first, 48)?;
+        let close = self.expression_from(first, LEVELS)?;
         self.end_of_text()?;
         Ok(close)
     }
@@ -35,7 +35,7 @@ impl Reader<'_, '_> {
     pub fn whole_sheet(&mut self) -> Result<u16, Fault>
         ensures { Gives (sheet_m 32) result self.old self.new }
     {
-        for _ in 0..32_u8 {
+        for _ in 0..MODULES {
             let first = self.next()?;
             if !Keyword::Module.is(first) {
                 return self.closing(first);

@@ -4,7 +4,7 @@ ghost use Rattle.grammar.specs.Read.{limit_of, blanked, Filled, Answered, IsRead
 ghost use Rattle.grammar.specs.Laws.{Judged};
 
 use crate::faults::Fault;
-use crate::reader::Reader;
+use crate::reader::{PLACES, Reader};
 use crate::sheet::ReadSheet;
 use crate::tree::Node;
 use words::{Cursor, measured};
@@ -13,7 +13,7 @@ use words::{Cursor, measured};
 fn blank(tree: &mut [Node])
     ensures { tree.new ≡ blanked tree.old }
 {
-    let limit = tree.len().min(65535);
+    let limit = tree.len().min(PLACES);
     tree[..limit].fill(Node::Blank);
 }
 

@@ -35,22 +35,16 @@ impl Start for TypeStart {
     fn of(first: Next) -> Option<TypeStart> {
         match first {
             Next::Name { name } => Some(TypeStart::Named(name)),
-            Next::Key {
-                key: Keyword::Int,
-                ..
-            } => Some(TypeStart::Int),
-            Next::Key {
-                key: Keyword::Bool,
-                ..
-            } => Some(TypeStart::Bool),
-            Next::Key {
-                key: Keyword::From,
-                ..
-            } => Some(TypeStart::From),
-            Next::Sign {
-                mark: Mark::Open,
-                ..
-            } => Some(TypeStart::Arrow),
+            Next::Key { key, .. } => match key {
+                Keyword::Int => Some(TypeStart::Int),
+                Keyword::Bool => Some(TypeStart::Bool),
+                Keyword::From => Some(TypeStart::From),
+                _ => None,
+            },
+            Next::Sign { mark, .. } => match mark {
+                Mark::Open => Some(TypeStart::Arrow),
+                _ => None,
+            },
             _ => None,
         }
     }
@@ -94,14 +88,11 @@ impl Start for DeclarationStart {
     fn of(first: Next) -> Option<DeclarationStart> {
         match first {
             Next::Name { name } => Some(DeclarationStart::Value(name)),
-            Next::Key {
-                key: Keyword::Opaque,
-                ..
-            } => Some(DeclarationStart::Opaque),
-            Next::Key {
-                key: Keyword::Transparent,
-                ..
-            } => Some(DeclarationStart::Transparent),
+            Next::Key { key, .. } => match key {
+                Keyword::Opaque => Some(DeclarationStart::Opaque),
+                Keyword::Transparent => Some(DeclarationStart::Transparent),
+                _ => None,
+            },
             _ => None,
         }
     }
@@ -113,10 +104,10 @@ impl Start for DefinitionStart {
     fn of(first: Next) -> Option<DefinitionStart> {
         match first {
             Next::Name { name } => Some(DefinitionStart::Value(name)),
-            Next::Key {
-                key: Keyword::Type,
-                ..
-            } => Some(DefinitionStart::Named),
+            Next::Key { key, .. } => match key {
+                Keyword::Type => Some(DefinitionStart::Named),
+                _ => None,
+            },
             _ => None,
         }
     }

@@ -6,7 +6,7 @@ ghost use Rattle.grammar.specs.Laying.{word_m, name_m, place_m};
 use crate::expected::Expected;
 use crate::faults::Fault;
 use crate::next::Next;
-use crate::reader::Reader;
+use crate::reader::{PLACES, Reader};
 use crate::tree::Node;
 use language::spans::Span;
 use words::{Token, figure};
@@ -76,7 +76,7 @@ impl<'t> Reader<'t, '_> {
         ensures { Gives (place_m node at) result self.old self.new }
     {
         let used = self.used;
-        if used >= self.tree.len() || used >= 65535 {
+        if used >= self.tree.len() || used >= PLACES {
             return Err(Fault::TreeFull(usize::from(at)));
         }
         self.tree[used] = node;

@@ -20,15 +20,6 @@ impl Reader<'_, '_> {
         ensures { Gives (part_m a_type levels) result self.old self.new }
     {
         let first = self.next()?;
-        self.type_from(first, levels)
-    }
-
-    // A type whose first word is `first`.
-    #[cycle(types)]
-    fn type_from(&mut self, first: Next, levels: u8) -> Result<u16, Fault>
-        requires { Whole (text_of self.old) first }
-        ensures { Gives (from_m a_type first levels) result self.old self.new }
-    {
         let start = begun(first, levels)?;
         self.type_form(start, first.place(), levels - 1)
     }

@@ -2,15 +2,13 @@
 use Rattle.std.specs.Prelude.{ℕ, ◌+◌, List, ◌++◌, Ok, Err, codes, decimal, Result}
 use Rattle.grammar.specs.declared.faults.Fault.{Fault}
 use Rattle.grammar.specs.declared.faults.Layer.{Layer}
-use Rattle.grammar.specs.declared.faults.Layer.TheVariants as in-layer
-use Rattle.grammar.specs.Faults.{Refusal, refusal, refusal_of}
+use Rattle.grammar.specs.Faults.{Refusal, layer_name, refusal, refusal_of}
 use Rattle.grammar.specs.Reading.{Out, bad, good}
 use Rattle.grammar.specs.Syntax.{Sheet, size}
 
 -- the end of a refusal's line
 abbrev pub by_layer : Layer → List ℕ
-by_layer in-layer.Words = codes " by words"
-by_layer in-layer.Grammar = codes " by grammar"
+by_layer layer = codes " by " ++ layer_name layer
 
 -- number, place and layer
 abbrev pub refused_bytes : ℕ → ℕ → Layer → List ℕ

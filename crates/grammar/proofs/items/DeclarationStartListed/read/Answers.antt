@@ -2,7 +2,7 @@ use Rattle.std.proofs.Common.{arith, rules}
 use Rattle.std.proofs.lemmas.Result.{err_from_is_err_and}
 use Rattle.grammar.specs.Productions.{a_declaration}
 use Rattle.grammar.specs.Starts.{declaration_start}
-use Rattle.grammar.specs.Laying.{from_m, declaration_m}
+use Rattle.grammar.specs.Laying.{from_m}
 use Rattle.grammar.specs.Readers.{state_of}
 use Rattle.grammar.proofs.Gives.{started-err}
 use Rattle.grammar.proofs.Froms.{declaration-none, declaration-from}
@@ -20,7 +20,6 @@ returns-in_err-begun c =
     }
 
 pub returns-in-Opaque : goal.returns-in-Opaque
-unfolding declaration_m
 returns-in-Opaque c =
     let d = c.opaque_type.ensures in
     record {
@@ -30,7 +29,6 @@ returns-in-Opaque c =
     }
 
 pub returns-in-Transparent : goal.returns-in-Transparent
-unfolding declaration_m
 returns-in-Transparent c =
     let d = c.transparent_type.ensures in
     record {
@@ -40,7 +38,6 @@ returns-in-Transparent c =
     }
 
 pub returns-in-Value : goal.returns-in-Value
-unfolding declaration_m
 returns-in-Value c =
     let d = c.declared.ensures in
     record {

@@ -2,7 +2,7 @@ use Rattle.std.proofs.Common.{arith, rules}
 use Rattle.std.proofs.lemmas.Result.{err_from_is_err_and}
 use Rattle.grammar.specs.Productions.{a_definition}
 use Rattle.grammar.specs.Starts.{definition_start}
-use Rattle.grammar.specs.Laying.{from_m, definition_m}
+use Rattle.grammar.specs.Laying.{from_m}
 use Rattle.grammar.specs.Readers.{state_of}
 use Rattle.grammar.proofs.Gives.{started-err}
 use Rattle.grammar.proofs.Froms.{definition-none, definition-from}
@@ -20,7 +20,6 @@ returns-in_err-begun c =
     }
 
 pub returns-in-Named : goal.returns-in-Named
-unfolding definition_m
 returns-in-Named c =
     let d = c.type_is.ensures in
     record {
@@ -30,7 +29,6 @@ returns-in-Named c =
     }
 
 pub returns-in-Value : goal.returns-in-Value
-unfolding definition_m
 returns-in-Value c =
     let d = c.value_is.ensures in
     record {
