@@ -6,9 +6,10 @@ use lib.ListN.{get_elem?}
 use Rattle.language.specs.Pantry.{Reply, figure_reply, max_magnitude, in_range, reply_of, fetch}
 use Rattle.pantry.specs.Factors.{energy, factors, annex, GivesEnergy}
 
-either : (b : Bool) → ◌≡◌ {A = Option Reply} (cond b none none) none
-either true = refl
-either false = refl
+-- a test that has no reply either way has none
+pub none_either : (b : Bool) → ◌≡◌ {A = Option Reply} (cond b none none) none
+none_either true = refl
+none_either false = refl
 
 -- an entry replies by its factor, and no factor is 0
 pub record ByFactor (i k : ℕ) (z : ℤ) : Type 0 where
@@ -21,7 +22,7 @@ by-factor (suc zero) k z e = let s : 4 ≡ k = cc in rw (sym s) record { reply =
 by-factor (suc (suc zero)) k z e = let s : 4 ≡ k = cc in rw (sym s) record { reply = refl; above = lit< tt }
 by-factor (suc (suc (suc zero))) k z e = let s : 7 ≡ k = cc in rw (sym s) record { reply = refl; above = lit< tt }
 by-factor (suc (suc (suc (suc zero)))) k z e = let s : 2 ≡ k = cc in rw (sym s) record { reply = refl; above = lit< tt }
-by-factor (suc (suc (suc (suc (suc i))))) k z e = absurd (let w : ◌≡◌ {A = ℕ} 0 1 = cc in omega arith)
+by-factor (suc (suc (suc (suc (suc i))))) k z e = absurd (cc)
 
 product : (i k n : ℕ) → get_elem? annex i ≡ some k → k * n ≤ max_magnitude → fetch factors i (pos n) ≡ some (figure_reply (pos (k * n)))
 product i k n e h =
@@ -30,10 +31,10 @@ product i k n e h =
     rw (le-leb n max_magnitude (omega arith), b.reply, le-leb (k * n) max_magnitude h)
 
 too_large : (i k n : ℕ) → get_elem? annex i ≡ some k → max_magnitude < k * n → fetch factors i (pos n) ≡ none
-too_large i k n e h = rw ((by-factor i k (pos n) e).reply, lt-leb (k * n) max_magnitude h) (either (in_range (pos n)))
+too_large i k n e h = rw ((by-factor i k (pos n) e).reply, lt-leb (k * n) max_magnitude h) (none_either (in_range (pos n)))
 
 negative : (i n : ℕ) → fetch factors i (negsuc n) ≡ none
-negative i n = rw (none-at i) (either (in_range (negsuc n))) where
+negative i n = rw (none-at i) (none_either (in_range (negsuc n))) where
   none-at : (i : ℕ) → reply_of (get_elem? factors i) (negsuc n) ≡ none
   none-at zero = refl
   none-at (suc zero) = refl

@@ -23,7 +23,7 @@ none_has f n k (suc m) j e l h q =
     ⊎_elim
     (λ (s : k ≡ j). let t : (record_at f k).item ≡ n = rw s q in
     let z : ◌≡◌ {A = Bool} true false = sym (eq-eqb (record_at f k).item n t) ∙ p.0 in
-    let w : ◌≡◌ {A = ℕ} 0 1 = cc in omega arith)
+    cc)
     (λ (s : k < j). none_has f n (k + 1) m j p.1 (omega arith) (omega arith) q)
     (eq-or-lt_of_le l)
 
@@ -73,7 +73,7 @@ pub record From (f : List ℕ) (i n k : ℕ) : Type 0 where
   pub before : (j : ℕ) → i ≤ j → j < k → record_ok f j ≡ true
 
 first-from : (f : List ℕ) (i n k : ℕ) → unlawful_from f i n ≡ Some k → From f i n k
-first-from f i zero k e = absurd (let z : ◌≡◌ {A = ℕ} 0 1 = cc in omega arith)
+first-from f i zero k e = absurd (cc)
 first-from f i (suc n) k e =
     go (record_ok f i) refl (λ t. first-from f (i + 1) n k t) (found (record_ok f i) i k (unlawful_from f (i + 1) n) e) where
       go : (b : Bool) → record_ok f i ≡ b → (unlawful_from f (i + 1) n ≡ Some k → From f (i + 1) n k) →
@@ -101,7 +101,7 @@ none_first f e k h = lawful_from f 0 (count_of f) k e (omega arith) (omega arith
 ok-parts : (h : Bool) (o : Option ℕ) → None ≡ cond h (at_record o) (Some NoItemFile) → (h ≡ true) × (o ≡ None)
 ok-parts true None e = (refl, refl)
 ok-parts true (Some k) e = (refl, cc)
-ok-parts false o e = absurd (let z : ◌≡◌ {A = ℕ} 0 1 = cc in omega arith)
+ok-parts false o e = absurd (cc)
 
 file-parts : (h : Bool) (o : Option ℕ) → Some NoItemFile ≡ cond h (at_record o) (Some NoItemFile) → h ≡ false
 file-parts true None e = cc
@@ -110,9 +110,9 @@ file-parts false o e = refl
 
 record-parts : (h : Bool) (o : Option ℕ) (p : ℕ) → Some (BadRecord p) ≡ cond h (at_record o) (Some NoItemFile) →
     (h ≡ true) × ((k : ℕ) × (o ≡ Some k) × (p ≡ place k))
-record-parts true None p e = absurd (let z : ◌≡◌ {A = ℕ} 0 1 = cc in omega arith)
+record-parts true None p e = absurd (cc)
 record-parts true (Some k) p e = (refl, (k, refl, cc))
-record-parts false o p e = absurd (let z : ◌≡◌ {A = ℕ} 0 1 = cc in omega arith)
+record-parts false o p e = absurd (cc)
 
 module _ (f : List ℕ) (bytes : (i : ℕ) → get_or f i 0 < 256) where
   judged-record : (k p : ℕ) → header_ok f ≡ true → unlawful f ≡ Some k → p ≡ place k → FirstUnlawful (records_of f) k p
@@ -122,7 +122,7 @@ module _ (f : List ℕ) (bytes : (i : ℕ) → get_or f i 0 < 256) where
       record {
         within = rw (records_length f) l;
         before = λ j i. lawful-at f j (omega arith) (t.before j (omega arith) i);
-        here = λ a. let z : ◌≡◌ {A = Bool} true false = sym (at-lawful f k l a) ∙ t.here in let w : ◌≡◌ {A = ℕ} 0 1 = cc in omega arith;
+        here = λ a. let z : ◌≡◌ {A = Bool} true false = sym (at-lawful f k l a) ∙ t.here in cc;
         place_is = q;
       }
 
@@ -135,7 +135,7 @@ module _ (f : List ℕ) (bytes : (i : ℕ) → get_or f i 0 < 256) where
       )
   judged (Err NoItemFile) e = λ rs c.
       let z : ◌≡◌ {A = Bool} true false = sym (decodes f rs c).0 ∙ file-parts (header_ok f) (unlawful f) e in
-      let w : ◌≡◌ {A = ℕ} 0 1 = cc in omega arith
+      cc
   judged (Err (BadRecord p)) e =
       let q = record-parts (header_ok f) (unlawful f) p e in
       (records_of f, q.1.0, encodes f bytes q.0, judged-record q.1.0 p q.0 q.1.1 q.1.2)

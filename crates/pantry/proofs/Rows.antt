@@ -3,6 +3,7 @@ use Rattle.std.proofs.Common.{◌≡◌, ℕ, zero, suc, ◌+◌, ◌-◌, ◌<�
 use Rattle.std.proofs.lemmas.List.{get_or-take, get_or-drop, drop-drop, length-map, length-take, length-drop, take_all, drop_all, map-append, take_more}
 use Rattle.std.specs.Simd.{first_chunks}
 use Rattle.pantry.specs.declared.records.Record.{Record}
+use Rattle.pantry.specs.FileFacts.{from_length}
 use Rattle.pantry.specs.File.{place, record_of, record_at, records_from, records_of, lawful_after, unlawful_in, unlawful_from, unlawful, count_of, header_ok, fault, at_record}
 
 pub exact : (f : List ℕ) → header_ok f ≡ true → length f ≡ place (count_of f)
@@ -56,15 +57,11 @@ longer : (f : List ℕ) (j k i n : ℕ) → i ≡ j + k → n ≡ k + 1 → reco
 longer f j zero i n e h = rw (h, e) (ap (λ (m : ℕ). record_at f m ∷ []) (omega arith))
 longer f j (suc k) i n e h = let s : n ≡ suc (k + 1) = omega arith in rw s (ap (λ (rs : List Record). record_at f j ∷ rs) (longer f (j + 1) k i (k + 1) (omega arith) refl))
 
-from-length : (f : List ℕ) (k n : ℕ) → length (records_from f k n) ≡ n
-from-length f k zero = refl
-from-length f k (suc n) = ap suc (from-length f (k + 1) n)
-
 behind : (f : List ℕ) (k n : ℕ) → unlawful_in (records_from f 0 k) (records_from f k n) ≡ unlawful_from f k n
 behind f k zero = refl
 behind f k (suc n) =
     let l : records_from f 0 k ++ record_at f k ∷ [] ≡ records_from f 0 (k + 1) = longer f 0 k k (k + 1) (omega arith) refl in
-    rw (l, behind f (k + 1) n, from-length f 0 k)
+    rw (l, behind f (k + 1) n, from_length f 0 k)
 
 pub unlawful-is : (f : List ℕ) → unlawful_in [] (records_of f) ≡ unlawful f
 unfolding records_of unlawful

@@ -1,12 +1,12 @@
 -- What the item pantry gives, in the words of the format.
-use Rattle.std.proofs.Common.{◌≡◌, ℕ, zero, suc, ◌+◌, ◌<◌, ◌≤◌, Bool, true, false, cond, List, length, ℤ, pos, negsuc, Some, None, sym, refl, ap, subst, ⊎_elim, eq-or-lt_of_le, arith, eq-eqb, ne_eqb, le-leb}
-use mathlib.Core.Option.{Option as Maybe, none}
-use Rattle.language.specs.Pantry.{Reply, in_range}
+use Rattle.std.proofs.Common.{◌≡◌, ℕ, zero, suc, ◌+◌, ◌<◌, ◌≤◌, true, List, length, ℤ, pos, negsuc, Some, None, sym, refl, ap, subst, ⊎_elim, eq-or-lt_of_le, arith, eq-eqb, ne_eqb, le-leb}
+use Rattle.language.specs.Pantry.{in_range}
 use Rattle.pantry.specs.declared.records.Record.{Record}
 use Rattle.pantry.specs.File.{record_at, records_from, records_of, first_with, count_of, accepted}
 use Rattle.pantry.specs.FileFacts.{none_unlawful, lawful_from, records_length}
 use Rattle.pantry.specs.Format.{InWidth, nth, Serves, ServesFile}
 use Rattle.pantry.specs.Items.{item_pantry, record_for}
+use Rattle.pantry.proofs.Energy.{none_either}
 use Rattle.pantry.proofs.Formats.{nth-is, decodes}
 use Rattle.pantry.proofs.Judging.{lawful-at, has-none}
 
@@ -21,10 +21,6 @@ first-is f i (suc n) k l h new =
     (λ (s : i < k). rw (ne_eqb (record_at f i).item (record_at f k).item (new i (omega arith) s))
     (first-is f (i + 1) n k (omega arith) (omega arith) (λ j a b. new j (omega arith) b)))
     (eq-or-lt_of_le l)
-
-none-either : (b : Bool) → ◌≡◌ {A = Maybe Reply} (cond b none none) none
-none-either true = refl
-none-either false = refl
 
 module _ (f : List ℕ) (ok : accepted f ≡ true) where
   there : (k : ℕ) → k < count_of f → first_with (record_at f k).item (records_of f) ≡ Some (record_at f k)
@@ -53,8 +49,8 @@ module _ (f : List ℕ) (ok : accepted f ≡ true) where
     allergen = λ k h.
         let l : k < count_of f = rw (records_length f) at h in
         rw (nth-is f k l, ranged k (rw (nth-is f k l) at (w k h)), there k l);
-    no_kcal = λ z h. rw (absent z h) (none-either (in_range z));
-    no_allergen = λ z h. rw (absent z h) (none-either (in_range z));
+    no_kcal = λ z h. rw (absent z h) (none_either (in_range z));
+    no_allergen = λ z h. rw (absent z h) (none_either (in_range z));
     items = λ z r. rw r;
   }
 

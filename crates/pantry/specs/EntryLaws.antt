@@ -1,6 +1,6 @@
 -- A pantry is lawful where its names are and each of its entries is.
 use Rattle.std.specs.Prelude.{◌≡◌, ℕ, zero, suc, ◌≤◌, Bool, true, false, cond, [], ◌∷◌, map, length, ℤ, refl}
-use Rattle.std.proofs.Common.{sym, arith}
+use Rattle.std.proofs.Common.{sym}
 use Rattle.std.proofs.Math.Option.{Option, none, some}
 use Rattle.std.proofs.Math.ListN.{get_elem?}
 use Rattle.language.specs.Names.{distinct}
@@ -18,7 +18,7 @@ EachLawful [] = Unit {0}
 EachLawful (e ∷ es) = EntryLawful e × EachLawful es
 
 each : (p : Pantry) (i : ℕ) (e : Entry) → EachLawful p → get_elem? p i ≡ some e → EntryLawful e
-each [] i e l q = absurd (let z : ◌≡◌ {A = ℕ} 0 1 = cc in omega arith)
+each [] i e l q = absurd (cc)
 each (d ∷ ds) zero e l q = let s : d ≡ e = cc in rw (sym s) l.0
 each (d ∷ ds) (suc i) e l q = each ds i e l.1 q
 
@@ -27,7 +27,7 @@ within true o a q = q
 within false o a q = cc
 
 ranged : (o : Option Entry) (z y : ℤ) → ((e : Entry) → o ≡ some e → EntryLawful e) → reply_of o z ≡ some (figure_reply y) → in_range y ≡ true
-ranged none z y l q = absurd (let z : ◌≡◌ {A = ℕ} 0 1 = cc in omega arith)
+ranged none z y l q = absurd (cc)
 ranged (some e) z y l q = (l e refl).figures_in_range z y q
 
 pub lawful_by_entry : (p : Pantry) → length p ≤ 64 → distinct (map entry_name p) ≡ true → lawful_names (map entry_name p) ≡ true →

@@ -41,7 +41,7 @@ lawful_from f k (suc n) j e l h =
     ⊎_elim (λ (q : k ≡ j). rw (sym q) p.0) (λ (q : k < j). lawful_from f (k + 1) n j p.1 (omega arith) (omega arith))
     (eq-or-lt_of_le l)
 
-from_length : (f : List ℕ) (k n : ℕ) → length (records_from f k n) ≡ n
+pub from_length : (f : List ℕ) (k n : ℕ) → length (records_from f k n) ≡ n
 from_length f k zero = refl
 from_length f k (suc n) = ap suc (from_length f (k + 1) n)
 

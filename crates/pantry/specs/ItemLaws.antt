@@ -18,7 +18,7 @@ picked false r s o e h k = k e
 
 first_small : (f : List ℕ) (k n : ℕ) → ((j : ℕ) → k ≤ j → j < k + n → (record_at f j).kcal ≤ max_magnitude) →
     (m : ℕ) (r : Record) → first_with m (records_from f k n) ≡ Some r → r.kcal ≤ max_magnitude
-first_small f k zero h m r q = absurd (let z : ◌≡◌ {A = ℕ} 0 1 = cc in omega arith)
+first_small f k zero h m r q = absurd (cc)
 first_small f k (suc n) h m r q =
     picked ((record_at f k).item == m) (record_at f k) r (first_with m (records_from f (k + 1) n)) q (h k (omega arith) (omega arith))
     (λ s. first_small f (k + 1) n (λ j l i. h j (omega arith) (omega arith)) m r s)
@@ -29,18 +29,18 @@ small f j h l = leb-true _ _ (right _ _ (left _ _ (lawful_from f 0 (count_of f) 
 pub found_small : (f : List ℕ) (z : ℤ) (r : Record) → accepted f ≡ true → record_for (records_of f) z ≡ Some r → r.kcal ≤ max_magnitude
 unfolding records_of
 found_small f (pos n) r h q = first_small f 0 (count_of f) (λ j l i. small f j h (omega arith)) n r q
-found_small f (negsuc n) r h q = absurd (let z : ◌≡◌ {A = ℕ} 0 1 = cc in omega arith)
+found_small f (negsuc n) r h q = absurd (cc)
 
 figured : (n : ℕ) → n ≤ max_magnitude → in_range (pos n) ≡ true
 figured n h = le-leb n max_magnitude h
 
 kcal_given : (o : Option Record) (a : Reply) → ((r : Record) → o ≡ Some r → r.kcal ≤ max_magnitude) → kcal_in o ≡ some a →
     (n : ℕ) × (a ≡ figure_reply (pos n)) × (n ≤ max_magnitude)
-kcal_given None a h e = absurd (let z : ◌≡◌ {A = ℕ} 0 1 = cc in omega arith)
+kcal_given None a h e = absurd (cc)
 kcal_given (Some r) a h e = (r.kcal, cc, h r refl)
 
 flag_given : (o : Option Record) (a : Reply) → flag_in o ≡ some a → (b : Bool) × (a ≡ flag_reply b)
-flag_given None a e = absurd (let z : ◌≡◌ {A = ℕ} 0 1 = cc in omega arith)
+flag_given None a e = absurd (cc)
 flag_given (Some r) a e = ((r.flag == 1), cc)
 
 module _ (f : List ℕ) (ok : accepted f ≡ true) (x : Name) where
@@ -50,15 +50,15 @@ module _ (f : List ℕ) (ok : accepted f ≡ true) (x : Name) where
     figures_in_range = λ z y q.
         let g = kcal_given (record_for (records_of f) z) (figure_reply y) (λ r s. found_small f z r ok s) q in
         let s : y ≡ pos g.0 = cc in rw s (figured g.0 g.2);
-    plain_reply = λ q. absurd (let z : ◌≡◌ {A = ℕ} 0 1 = cc in omega arith);
+    plain_reply = λ q. absurd (cc);
   }
 
   allergen_entry_lawful : EntryLawful record { name = x; kind = flag_by_item; reply = λ z. flag_in (record_for (records_of f) z) }
   allergen_entry_lawful = record {
     by_kind = λ z a q. rw (flag_given (record_for (records_of f) z) a q).1 tt;
     figures_in_range = λ z y q. let g = flag_given (record_for (records_of f) z) (figure_reply y) q in
-        absurd (let z : ◌≡◌ {A = ℕ} 0 1 = cc in omega arith);
-    plain_reply = λ q. absurd (let z : ◌≡◌ {A = ℕ} 0 1 = cc in omega arith);
+        absurd (cc);
+    plain_reply = λ q. absurd (cc);
   }
 
   items_entry_lawful : EntryLawful record { name = x; kind = figure_kind; reply = λ z. some (figure_reply (pos (length (records_of f)))) }

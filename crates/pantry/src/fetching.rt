@@ -70,6 +70,7 @@ impl Pantry for Items<'_> {
     }
 
     fn entry(&self, i: usize) -> Option<Entry<'_>> {
+        // The lifetime is written out, since the table outlives the pantry.
         let entry: &'static Entry<'static> = ENTRIES.get(i)?;
         Some(*entry)
     }

@@ -1,5 +1,5 @@
 -- A body exchanged for another that the interface accepts.
-use Rattle.std.proofs.Common.{◌≡◌, ℕ, true, ◌⊎◌, List, [], ◌∷◌, ◌++◌, map, pos, sym, refl, ap, ◌∙◌, subst, ap₂, inl, inr, arith}
+use Rattle.std.proofs.Common.{◌≡◌, ℕ, true, ◌⊎◌, List, [], ◌∷◌, ◌++◌, map, pos, sym, refl, ap, ◌∙◌, subst, ap₂, inl, inr}
 use Rattle.std.proofs.lemmas.List.{append_assoc, map-append}
 use Rattle.words.specs.Names.{Name}
 use Rattle.language.specs.Names.{bind}
@@ -129,7 +129,7 @@ module _ (kinds : Stock) (tp sp : ℕ) where
 
     accepted-there : (r : ExpandedType) → Typed kinds sheet r → AcceptedByRules kinds x → Accepted kinds tp sp x
     accepted-there r t a f e = elim (passing-complete kinds tp sp sheet' r (new-typed r t a)) [
-      | inl p ↦ (let q = refused-there f e in let z : ◌≡◌ {A = ℕ} 0 1 = cc in absurd (omega arith))
+      | inl p ↦ (let q = refused-there f e in absurd (cc))
       | inr (g, p, y) ↦ (let q = refused-there f e in let z : g ≡ f = cc in subst (λ (h : CheckFault). is_exceeded h ≡ true) z y)
     ]
 

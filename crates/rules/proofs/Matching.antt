@@ -1,5 +1,5 @@
 -- Matching: the check and the rules go together.
-use Rattle.std.proofs.Common.{◌≡◌, ℕ, ◌≤◌, Bool, true, false, cond, ◌&&◌, List, [], ◌∷◌, ◌++◌, map, Some, None, Option, sym, refl, ap, ◌∙◌, subst, ap₂, arith}
+use Rattle.std.proofs.Common.{◌≡◌, ℕ, ◌≤◌, Bool, true, false, cond, ◌&&◌, List, [], ◌∷◌, ◌++◌, map, Some, None, Option, sym, refl, ap, ◌∙◌, subst, ap₂}
 use mathlib.Core.Option.{Option as Maybe, none, some}
 use Rattle.std.proofs.lemmas.Bool.{cond-true}
 use Rattle.language.specs.Bindings.{option_of}
@@ -94,7 +94,7 @@ Held us (made_value x a ∷ ms) = Held us ms
 
 supplied-held : (us : Context) (t : Name) (ms : List Made) (a : ExpandedType) (left : List Made) → Held us ms →
     supplied_by true t ms ≡ Some (a, left) → (lookup us t ≡ some a) × Held us left
-supplied-held us t [] a left h e = let z : ◌≡◌ {A = ℕ} 0 1 = cc in absurd (omega arith)
+supplied-held us t [] a left h e = absurd (cc)
 supplied-held us t (made_type k b ∷ ms) a left h e = go (same_name k t) refl e (supplied-held us t ms a left h.1)
   where
     go : (c : Bool) → same_name k t ≡ c → cond c (Some (b, ms)) (supplied_by true t ms) ≡ Some (a, left) →
@@ -123,7 +123,7 @@ fresh-type names t h = go (lookup (types_of names) t) refl h
     go : (o : Maybe ExpandedType) → lookup (types_of names) t ≡ o → neither (option_of o) (option_of (lookup (values_of names) t)) ≡ true →
         lookup (types_of names) t ≡ none
     go none e q = e
-    go (some a) e q = let z : ◌≡◌ {A = ℕ} 0 1 = cc in absurd (omega arith)
+    go (some a) e q = absurd (cc)
 
 -- the names of a body are what its scope has for them
 pub defines-held : (n : Interfaces) (s : Context) (names : List Made) (ds : List language.Definition) (k : List Made) →
@@ -147,7 +147,7 @@ held-onto us (made_value x a ∷ ms) acc h k = held-onto us ms (made_value x a �
 
 value-held : (us : Context) (x : Name) (ms : List Made) (a : ExpandedType) (left : List Made) → Held us ms →
     supplied_by false x ms ≡ Some (a, left) → Held us left
-value-held us x [] a left h e = let z : ◌≡◌ {A = ℕ} 0 1 = cc in absurd (omega arith)
+value-held us x [] a left h e = absurd (cc)
 value-held us x (made_type k b ∷ ms) a left h e = value-held us x ms a left h.1 e
 value-held us x (made_value k b ∷ ms) a left h e = go (same_name k x) e (value-held us x ms a left h)
   where

@@ -72,7 +72,7 @@ module _ (tp sp : ℕ) where
   shallow-push (b ∷ ts) a h d = (h.0, shallow-push ts a h.1 d)
 
   pub member-shallow : (ts : List ExpandedType) (a : ExpandedType) → Shallow ts → member a ts ≡ true → depth a ≤ depth_limit
-  member-shallow [] a h e = let z : ◌≡◌ {A = ℕ} 0 1 = cc in absurd (omega arith)
+  member-shallow [] a h e = absurd (cc)
   member-shallow (b ∷ ts) a h e = go (same_type b a) refl e (member-shallow ts a h.1)
     where
       go : (c : Bool) → same_type b a ≡ c → cond c true (member a ts) ≡ true → (member a ts ≡ true → depth a ≤ depth_limit) →
@@ -195,8 +195,8 @@ module _ (kinds : Stock) (tp sp : ℕ) (sheet : Sheet) where
     where
       go : Tied outcome (check_of (stock_types kinds) (plain sheet)) given (distinct_types kinds (plain sheet)) →
           Typed kinds sheet r × (ts ≡ distinct_types kinds (plain sheet)) × Within kinds tp sp (plain sheet)
-      go (tied-none f p o) = let z : ◌≡◌ {A = ℕ} 0 1 = cc in absurd (omega arith)
-      go (tied-over a f p b o) = let z : ◌≡◌ {A = ℕ} 0 1 = cc in absurd (omega arith)
+      go (tied-none f p o) = absurd (cc)
+      go (tied-over a f p b o) = absurd (cc)
       go (tied-good a p b o) =
           let z : check_of (stock_types kinds) (plain sheet) ≡ some r = cc in
           ((check-agrees (stock_types kinds) (plain sheet) r).0 z, cc, within-from b)
@@ -209,7 +209,7 @@ module _ (kinds : Stock) (tp sp : ℕ) (sheet : Sheet) where
       go : Tied outcome (check_of (stock_types kinds) (plain sheet)) given (distinct_types kinds (plain sheet)) →
           check_of (stock_types kinds) (plain sheet) ≡ some r →
           Passed kinds tp sp sheet r ⊎ ((f : CheckFault) × (outcome ≡ bad f) × Lacks kinds tp sp (plain sheet) f)
-      go (tied-none f p o) e = let z : ◌≡◌ {A = ℕ} 0 1 = cc in absurd (omega arith)
+      go (tied-none f p o) e = absurd (cc)
       go (tied-over a f p b o) e = inr (f, o, lacks-from f b)
       go (tied-good a p b o) e = let z : a ≡ r = cc in inl (o ∙ ap (λ (c : ExpandedType). good c (distinct_types kinds (plain sheet))) z)
 
@@ -248,7 +248,7 @@ refusing-sound kinds tp sp sheet f h r t = go (outcome-of kinds tp sp sheet r t)
   where
     go : Passed kinds tp sp sheet r ⊎ ((g : CheckFault) × (checking kinds tp sp sheet ≡ bad g) × Lacks kinds tp sp (plain sheet) g) →
         Lacks kinds tp sp (plain sheet) f
-    go (inl x) = let z : ◌≡◌ {A = ℕ} 0 1 = cc in absurd (omega arith)
+    go (inl x) = absurd (cc)
     go (inr (g, e, x)) = let z : g ≡ f = cc in subst (Lacks kinds tp sp (plain sheet)) z x
 
 pub larger-tables : LargerTables

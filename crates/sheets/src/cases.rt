@@ -1,5 +1,4 @@
-use crate::lines::{byte_of, number_of, split};
-use anyhow::anyhow;
+use anyhow::{Context, bail};
 use pantry::loading::EMPTY_FILE;
 use results::Setup;
 use std::alloc::{AllocError, Global};
@@ -7,16 +6,16 @@ use std::alloc::{AllocError, Global};
 // A sheet under way: its name, its text, its item file, and what it runs with.
 #[derive(Drop)]
 pub struct Case {
-    pub name: Vec<u8>,
+    pub name: String,
     pub text: Vec<u8>,
     pub items: Vec<u8>,
     pub setup: Setup,
 }
 
 impl Case {
-    pub fn new(heap: Global) -> Result<Case, AllocError> {
+    pub fn new(heap: Global, name: &str) -> Result<Case, AllocError> {
         Ok(Case {
-            name: Vec::new(heap),
+            name: String::from_str(heap, name)?,
             text: Vec::new(heap),
             items: EMPTY_FILE.to_vec(heap)?,
             setup: Setup::PANEL,
@@ -24,70 +23,41 @@ impl Case {
     }
 
     // One line of the data file that is about a sheet.
-    pub fn change(&mut self, heap: Global, word: &[u8], argument: &[u8]) -> anyhow::Result<()> {
+    pub fn change(&mut self, heap: Global, word: &str, argument: &str) -> anyhow::Result<()> {
         match word {
-            b"sheet" => {
-                *self = Case::new(heap)?;
-                self.name.extend_from_slice(argument)?;
-                Ok(())
+            "sheet" => *self = Case::new(heap, argument)?,
+            "text" => self.text.extend_from_slice(argument.as_bytes())?,
+            "bytes" => self.text.extend_from_slice(&hex::decode(heap, argument)?)?,
+            "items" => self.items = hex::decode(heap, argument)?,
+            "again" => {
+                let (times, digits) = argument.split_once(' ').context("no bytes are told")?;
+                let bytes = hex::decode(heap, digits)?;
+                for _ in 0..times.parse::<u32>()? {
+                    self.text.extend_from_slice(&bytes)?;
+                }
             }
-            b"text" => {
-                self.text.extend_from_slice(argument)?;
-                Ok(())
+            "set" => {
+                let (key, number) = argument.split_once(' ').context("nothing is set")?;
+                set(&mut self.setup, key, number.parse()?)?;
             }
-            b"bytes" => append(&mut self.text, argument),
-            b"items" => {
-                self.items.clear();
-                append(&mut self.items, argument)
-            }
-            b"again" => repeat(&mut self.text, argument),
-            b"set" => set(&mut self.setup, argument),
-            _ => Err(anyhow!("a line begins with an unknown word")),
+            _ => bail!("a line begins with an unknown word"),
         }
+        Ok(())
     }
-}
-
-// Appends the bytes that are told in hexadecimal.
-fn append(to: &mut Vec<u8>, hex: &[u8]) -> anyhow::Result<()> {
-    let mut at = 0;
-    while at + 1 < hex.len() {
-        let Some(byte) = byte_of(&hex[at..]) else {
-            return Err(anyhow!("a byte is not told by two digits"));
-        };
-        to.push(byte)?;
-        at += 2;
-    }
-    Ok(())
-}
-
-// Appends bytes a number of times.
-fn repeat(to: &mut Vec<u8>, argument: &[u8]) -> anyhow::Result<()> {
-    let (times, hex) = split(argument);
-    let Some(n) = number_of(times) else {
-        return Err(anyhow!("a number is not told in digits"));
-    };
-    for _ in 0..n {
-        append(to, hex)?;
-    }
-    Ok(())
 }
 
 // Sets a table's length, the allowance or the buffer's length.
-fn set(setup: &mut Setup, argument: &[u8]) -> anyhow::Result<()> {
-    let (key, digits) = split(argument);
-    let Some(n) = number_of(digits) else {
-        return Err(anyhow!("a number is not told in digits"));
-    };
-    let places = n as usize;
+fn set(setup: &mut Setup, key: &str, number: u32) -> anyhow::Result<()> {
+    let places = number as usize;
     match key {
-        b"allowance" => setup.allowance = n,
-        b"tree" => setup.tree = places,
-        b"types" => setup.types = places,
-        b"scope" => setup.scope = places,
-        b"cells" => setup.cells = places,
-        b"frames" => setup.frames = places,
-        b"buffer" => setup.buffer = places,
-        _ => return Err(anyhow!("an unknown thing is set")),
+        "allowance" => setup.allowance = number,
+        "tree" => setup.tree = places,
+        "types" => setup.types = places,
+        "scope" => setup.scope = places,
+        "cells" => setup.cells = places,
+        "frames" => setup.frames = places,
+        "buffer" => setup.buffer = places,
+        _ => bail!("an unknown thing is set"),
     }
     Ok(())
 }

@@ -2,54 +2,35 @@
 #![tactic(auto)]
 
 mod cases;
-mod lines;
 
 use cases::Case;
-use lines::{line_at, split};
 use std::fs;
 use std::io::Write;
 
 // What one line of the data file says.
-fn follow(rt: &HostRuntime, case: &mut Case, line: &[u8]) -> anyhow::Result<()> {
-    let (word, argument) = split(line);
+fn follow(rt: &HostRuntime, case: &mut Case, line: &str) -> anyhow::Result<()> {
+    if line.is_empty() || line.starts_with('#') {
+        return Ok(());
+    }
+    let (word, argument) = line.split_once(' ').unwrap_or((line, ""));
     match word {
-        [] | [b'#', ..] => Ok(()),
-        b"group" => {
-            let mut out = rt.stdout();
-            out.write_all(b"== ")?;
-            out.write_all(argument)?;
-            out.write_all(b"\n")?;
-            Ok(())
-        }
-        b"run" => {
+        "group" => println!(rt; "== {argument}")?,
+        "run" => {
             let line = results::line(rt.alloc(), &case.items, &case.text, case.setup)?;
             let mut out = rt.stdout();
-            out.write_all(&case.name)?;
-            out.write_all(b": ")?;
+            write!(out, "{}: ", case.name)?;
             out.write_all(&line)?;
-            Ok(())
         }
-        _ => case.change(rt.alloc(), word, argument),
-    }
-}
-
-// All lines of the data file, in order.
-fn follow_all(rt: &HostRuntime, bytes: &[u8]) -> anyhow::Result<()> {
-    let mut case = Case::new(rt.alloc())?;
-    let mut at = 0;
-    while at < bytes.len() {
-        let line = line_at(bytes, at);
-        follow(rt, &mut case, line)?;
-        at += line.len() + 1;
+        _ => case.change(rt.alloc(), word, argument)?,
     }
     Ok(())
 }
 
-fn run(rt: &HostRuntime) -> anyhow::Result<()> {
-    let data = fs::read(rt, "sheets.txt")?;
-    follow_all(rt, &data)
-}
-
 fn main(rt: HostRuntime) -> anyhow::Result<()> {
-    run(&rt)
+    let data = fs::read_to_string(&rt, "sheets.txt")?;
+    let mut case = Case::new(rt.alloc(), "")?;
+    for line in data.split('\n') {
+        follow(&rt, &mut case, line)?;
+    }
+    Ok(())
 }
