@@ -10,7 +10,7 @@ use Rattle.rules.specs.Forms.{Out, bad, good, after}
 use Rattle.rules.specs.Rules as rules
 use Rattle.rules.specs.Checking.{check_modules}
 use Rattle.typing.specs.declared.types.TypeEntry.{TypeEntry}
-use Rattle.typing.specs.declared.types.Slot.{Slot}
+use Rattle.typing.specs.Tables.{State}
 use Rattle.typing.specs.declared.types.Interface.{Interface}
 use Rattle.typing.specs.declared.types.Known.{Known}
 use Rattle.checker.specs.declared.sheets.Progress.{Progress}
@@ -54,20 +54,20 @@ module _ (text : List ℕ) (tree : List Node) (start end : ℕ) (name : Span) (f
 
 module _ (text : List ℕ) (tree : List Node) (base : List TypeEntry) (entries : List Known) (tp sp : ℕ) (h₀ : rules.Scope) (ts₀ : List ExpandedType) where
   -- what a step promises, wherever it begins
-  abbrev Steps : List Interface → List TypeEntry → List Slot → Progress → ℕ → Span → ℕ → ℕ → Result Progress CheckFault → List Interface → List TypeEntry → List Slot → Type 0
-  Steps interfaces types slots at end name p q r interfaces' types' slots' = (base : List TypeEntry) (h : rules.Scope) (ts : List ExpandedType) →
-      Between text base entries p q (take at.modules interfaces) types at.count slots at.used ts h →
-      AfterModules text base entries p q (check_nodes text tree p q name (take (end - at.start) (drop at.start tree)) h ts) r interfaces' types' slots'
+  abbrev Steps : List Interface → State → Progress → ℕ → Span → ℕ → ℕ → Result Progress CheckFault → List Interface → State → Type 0
+  Steps interfaces s at end name p q r interfaces' s' = (base : List TypeEntry) (h : rules.Scope) (ts : List ExpandedType) →
+      Between text base entries p q (take at.modules interfaces) s at.used ts h →
+      AfterModules text base entries p q (check_nodes text tree p q name (take (end - at.start) (drop at.start tree)) h ts) r interfaces' s'
 
-  module _ (interfaces : List Interface) (types : List TypeEntry) (slots : List Slot) (at : Progress) (end : ℕ) (name : Span)
-      (found : module_end at.start (drop at.start tree) ≡ Some (end, name)) (g : Going text tree base entries tp sp h₀ ts₀ interfaces types slots at)
-      (interfaces' : List Interface) (types' : List TypeEntry) (slots' : List Slot) where
+  module _ (interfaces : List Interface) (s : State) (at : Progress) (end : ℕ) (name : Span)
+      (found : module_end at.start (drop at.start tree) ≡ Some (end, name)) (g : Going text tree base entries tp sp h₀ ts₀ interfaces s at)
+      (interfaces' : List Interface) (s' : State) where
     all_first : check_modules tp sp (modules_of text tree tree) h₀ ts₀ ≡
         after (check_nodes text tree tp sp name (take (end - at.start) (drop at.start tree)) g.scope g.told) (check_modules tp sp (modules_of text tree (drop (end + 1) tree)))
     all_first = g.rest ∙ this-first text tree at.start end name found tp sp g.scope g.told
 
     on-good : (p : Progress) (o : Out (List ExpandedType) rules.Scope) → check_nodes text tree tp sp name (take (end - at.start) (drop at.start tree)) g.scope g.told ≡ o →
-        AfterModules text base entries tp sp o (Ok p) interfaces' types' slots' → p.start ≡ end + 1 → Going text tree base entries tp sp h₀ ts₀ interfaces' types' slots' p
+        AfterModules text base entries tp sp o (Ok p) interfaces' s' → p.start ≡ end + 1 → Going text tree base entries tp sp h₀ ts₀ interfaces' s' p
     on-good p (bad f) e a q = let z : ◌≡◌ {A = ℕ} 0 1 = cc in absurd (omega arith)
     on-good p (good k us) e a q =
         let p' = a.0 in
@@ -75,37 +75,37 @@ module _ (text : List ℕ) (tree : List Node) (base : List TypeEntry) (entries :
         record {
           scope = k;
           told = us;
-          between = subst (λ (v : Progress). Between text base entries tp sp (take v.modules interfaces') types' v.count slots' v.used us k) x a.2;
+          between = subst (λ (v : Progress). Between text base entries tp sp (take v.modules interfaces') s' v.used us k) x a.2;
           rest = all_first ∙ (ap (λ (o : Out (List ExpandedType) rules.Scope). after o (check_modules tp sp (modules_of text tree (drop (end + 1) tree)))) e ∙
               ap (λ (n : ℕ). check_modules tp sp (modules_of text tree (drop n tree)) k us) (sym q));
         }
 
     -- the promise, with the places that the tables had at the start
-    moved : (r : Result Progress CheckFault) → places types ≡ tp → places slots ≡ sp →
-        Steps interfaces types slots at end name (places types) (places slots) r interfaces' types' slots' → Steps interfaces types slots at end name tp sp r interfaces' types' slots'
+    moved : (r : Result Progress CheckFault) → places s.types ≡ tp → places s.slots ≡ sp →
+        Steps interfaces s at end name (places s.types) (places s.slots) r interfaces' s' → Steps interfaces s at end name tp sp r interfaces' s'
     moved r et es steps =
-        subst (λ (q : ℕ). Steps interfaces types slots at end name tp q r interfaces' types' slots') es
-        (subst (λ (p : ℕ). Steps interfaces types slots at end name p (places slots) r interfaces' types' slots') et steps)
+        subst (λ (q : ℕ). Steps interfaces s at end name tp q r interfaces' s') es
+        (subst (λ (p : ℕ). Steps interfaces s at end name p (places s.slots) r interfaces' s') et steps)
 
-    pub going_on : (p : Progress) → places types ≡ tp → places slots ≡ sp →
-        Steps interfaces types slots at end name (places types) (places slots) (Ok p) interfaces' types' slots' → p.start ≡ end + 1 →
-        Going text tree base entries tp sp h₀ ts₀ interfaces' types' slots' p
+    pub going_on : (p : Progress) → places s.types ≡ tp → places s.slots ≡ sp →
+        Steps interfaces s at end name (places s.types) (places s.slots) (Ok p) interfaces' s' → p.start ≡ end + 1 →
+        Going text tree base entries tp sp h₀ ts₀ interfaces' s' p
     going_on p et es steps q = on-good p _ refl (moved (Ok p) et es steps base g.scope g.told g.between) q
 
     on-bad : (f : CheckFault) (o : Out (List ExpandedType) rules.Scope) → check_nodes text tree tp sp name (take (end - at.start) (drop at.start tree)) g.scope g.told ≡ o →
-        AfterModules text base entries tp sp o (Err f) interfaces' types' slots' → check_modules tp sp (modules_of text tree tree) h₀ ts₀ ≡ bad f
+        AfterModules text base entries tp sp o (Err f) interfaces' s' → check_modules tp sp (modules_of text tree tree) h₀ ts₀ ≡ bad f
     on-bad f (bad e) q a =
         let z : e ≡ f = cc in
         all_first ∙ (ap (λ (o : Out (List ExpandedType) rules.Scope). after o (check_modules tp sp (modules_of text tree (drop (end + 1) tree)))) q ∙ ap bad z)
     on-bad f (good k us) q a = let y = a.1 in let z : ◌≡◌ {A = ℕ} 0 1 = cc in absurd (omega arith)
 
-    pub going-bad : (f : CheckFault) → places types ≡ tp → places slots ≡ sp →
-        Steps interfaces types slots at end name (places types) (places slots) (Err f) interfaces' types' slots' →
-        AfterModules text base entries tp sp (check_modules tp sp (modules_of text tree tree) h₀ ts₀) (Err f) interfaces' types' slots'
+    pub going-bad : (f : CheckFault) → places s.types ≡ tp → places s.slots ≡ sp →
+        Steps interfaces s at end name (places s.types) (places s.slots) (Err f) interfaces' s' →
+        AfterModules text base entries tp sp (check_modules tp sp (modules_of text tree tree) h₀ ts₀) (Err f) interfaces' s'
     going-bad f et es steps = rw (on-bad f _ refl (moved (Err f) et es steps base g.scope g.told g.between))
 
-  pub gone : (interfaces : List Interface) (types : List TypeEntry) (slots : List Slot) (at : Progress) → module_end at.start (drop at.start tree) ≡ None →
-      Going text tree base entries tp sp h₀ ts₀ interfaces types slots at →
-      AfterModules text base entries tp sp (check_modules tp sp (modules_of text tree tree) h₀ ts₀) (Ok at) interfaces types slots
-  gone interfaces types slots at e g =
+  pub gone : (interfaces : List Interface) (s : State) (at : Progress) → module_end at.start (drop at.start tree) ≡ None →
+      Going text tree base entries tp sp h₀ ts₀ interfaces s at →
+      AfterModules text base entries tp sp (check_modules tp sp (modules_of text tree tree) h₀ ts₀) (Ok at) interfaces s
+  gone interfaces s at e g =
       rw (g.rest ∙ ap (λ (ms : List Module). check_modules tp sp ms g.scope g.told) (no-section text tree at.start (drop at.start tree) e)) (at, refl, g.between)

@@ -11,7 +11,6 @@ use Rattle.rules.specs.Rules.{depth, depth_limit, member, entering}
 use Rattle.rules.specs.Checking.{enter_all, kind_types}
 use Rattle.typing.specs.declared.types.TypeEntry.{TypeEntry}
 use Rattle.typing.specs.declared.types.TypeEntry.TheVariants as entry
-use Rattle.typing.specs.declared.types.Slot.{Slot}
 use Rattle.typing.specs.declared.types.Known.{Known}
 use Rattle.typing.specs.declared.tables.Tables.{Tables}
 use Rattle.typing.specs.Tables.{State, state_of, Gave}
@@ -19,7 +18,7 @@ use Rattle.typing.specs.Stands.{Stands, row_int, row_bool}
 use Rattle.typing.proofs.Alike.{Tie, Alike, alike-bad, alike-good, next-refl}
 use Rattle.typing.proofs.Rows.{adding-alike}
 use Rattle.checker.specs.Stocks.{stock_in}
-use Rattle.checker.specs.Kinds.{Begun, AfterKinds, first_n, first_types, AfterStart}
+use Rattle.checker.specs.Kinds.{Begun, AfterKinds, first_n, first_types, AfterKinds}
 use Rattle.checker.proofs.InOrder.{gave-good, gave-bad}
 use Rattle.checker.proofs.Declares.{then-with}
 
@@ -79,9 +78,9 @@ module _ (text : List ℕ) (base : List TypeEntry) (tp sp : ℕ) where
     bad-first f (alike-bad {f = e}) q = let z : e ≡ f = cc in ap bad z
     bad-first f (alike-good n r) q = let z : ◌≡◌ {A = ℕ} 0 1 = cc in absurd (omega arith)
 
-    pub start_first : (f : CheckFault) (t : Tables) (r : Result ℕ CheckFault) (known : List Known) (types : List TypeEntry) (slots : List Slot) → Gave (first_n s) (Err f) t → r ≡ Err f →
-        AfterStart text base tp sp entries (enter_all tp sp (first_types entries) []) r known types slots
-    start_first f t r known types slots h e =
+    pub start_first : (f : CheckFault) (t : Tables) (r : Result Unit CheckFault) (known : List Known) (u : State) → Gave (first_n s) (Err f) t → r ≡ Err f →
+        AfterKinds text base tp sp entries (enter_all tp sp (first_types entries) []) r known u
+    start_first f t r known u h e =
         rw (all-is ∙ ap (λ (o : Out (List ExpandedType) Unit). after o (λ _. later)) (bad-first f (first_goes s st) (gave-bad (first_n s) f t h))) e
 
     -- after the two first types
@@ -102,21 +101,3 @@ module _ (text : List ℕ) (base : List TypeEntry) (tp sp : ℕ) where
 
     pub two : (t : Tables) → Gave (first_n s) (Ok tt) t → Two (state_of t)
     two t h = good-first (state_of t) (first_goes s st) (gave-good (first_n s) tt t h) refl
-
-    pub start-bad : (f : CheckFault) (t : State) (g : Two t) (r : Result ℕ CheckFault) (known : List Known) (u : State) (types : List TypeEntry) (slots : List Slot) →
-        AfterKinds text base tp sp entries (later g.told) (Err f) known u → r ≡ Err f →
-        AfterStart text base tp sp entries (enter_all tp sp (first_types entries) []) r known types slots
-    start-bad f t g r known u types slots h q = rw g.is (go (later g.told) h)
-      where
-        go : (o : Out (List ExpandedType) Unit) → AfterKinds text base tp sp entries o (Err f) known u → AfterStart text base tp sp entries o r known types slots
-        go (bad e) h = let z : f ≡ e = cc in q ∙ ap Err z
-        go (good x us) h = let y = h.0 in let z : ◌≡◌ {A = ℕ} 0 1 = cc in absurd (omega arith)
-
-    pub start-good : (t : State) (g : Two t) (known : List Known) (u : State) → AfterKinds text base tp sp entries (later g.told) (Ok tt) known u →
-        AfterStart text base tp sp entries (enter_all tp sp (first_types entries) []) (Ok u.count) known u.types u.slots
-    start-good t g known u h = rw g.is (go (later g.told) h)
-      where
-        go : (o : Out (List ExpandedType) Unit) → AfterKinds text base tp sp entries o (Ok tt) known u →
-            AfterStart text base tp sp entries o (Ok u.count) known u.types u.slots
-        go (bad e) h = let z : ◌≡◌ {A = ℕ} 0 1 = cc in absurd (omega arith)
-        go (good x us) h = (u.count, refl, h.1, h.2)

@@ -17,11 +17,12 @@ use Rattle.typing.specs.declared.types.Interface.{Interface}
 use Rattle.typing.specs.declared.types.Known.{Known}
 use Rattle.typing.specs.Stands.{Stands, Stocks, rows_none, none_declares}
 use Rattle.checker.specs.declared.sheets.Progress.{Progress}
-use Rattle.checker.specs.Sheets.{state_in, places, Between, AfterModules, Start, Finish, ClosedBy, AfterClosing}
+use Rattle.typing.specs.Tables.{State}
+use Rattle.checker.specs.Sheets.{places, Between, AfterModules, Start, Finish, ClosedBy, AfterClosing}
 use Rattle.checker.specs.Stocks.{stock_in}
-use Rattle.checker.specs.Kinds.{first_types, AfterStart}
+use Rattle.checker.specs.Kinds.{first_types, AfterKinds}
 use Rattle.checker.specs.Modules.{none_declared}
-use Rattle.checker.specs.Runs.{Answers}
+use Rattle.checker.specs.Runs.{state_in, Answers}
 
 -- a table with no type yet
 pub none-stands : (text : List ℕ) (types : List TypeEntry) (slots : List Slot) → Stands text (places types) (places slots) types (state_in types 0 slots) []
@@ -40,6 +41,13 @@ pub answers-bad : (text : List ℕ) (tp sp : ℕ) (base : List TypeEntry) (m : O
     (types : List TypeEntry) (slots : List Slot) → o ≡ bad f → r ≡ Err f → Answers text tp sp base m o r types slots
 answers-bad text tp sp base m o f r types slots e q = rw e q
 
+-- the tables come back as they were left
+pub lent-back : (text : List ℕ) (tp sp : ℕ) (base : List TypeEntry) (m : Out (List ExpandedType) rules.Scope) (o : Out (List ExpandedType) ExpandedType) (r : Result (ℕ × ℕ) CheckFault)
+    (types : List TypeEntry) (slots : List Slot) {types' : List TypeEntry} {slots' : List Slot} → Answers text tp sp base m o r types slots → types ≡ types' → slots ≡ slots' →
+    Answers text tp sp base m o r types' slots'
+lent-back text tp sp base m o r types slots {types'} a p q =
+    subst (λ (v : List Slot). Answers text tp sp base m o r types' v) q (subst (λ (v : List TypeEntry). Answers text tp sp base m o r v slots) p a)
+
 module _ (text : List ℕ) (tree : List Node) (base : List TypeEntry) (tp sp : ℕ) (entries : List Entry) (e : Exp) where
   -- by the rules: the whole check
   abbrev whole : Out (List ExpandedType) ExpandedType
@@ -57,115 +65,113 @@ module _ (text : List ℕ) (tree : List Node) (base : List TypeEntry) (tp sp : �
   closing_then g = rules.typing tp sp e g
 
   -- after the first types
-  pub record One (n : ℕ) (ks : List Known) (types : List TypeEntry) (slots : List Slot) : Type 0 where
+  pub record One (ks : List Known) (s : State) : Type 0 where
     pub told : List ExpandedType
-    pub between : Between text base ks tp sp [] types n slots 0 told (at_start (stock_in entries))
+    pub between : Between text base ks tp sp [] s 0 told (at_start (stock_in entries))
     pub is : whole ≡ after (modules_then told) closing_then
     pub modules-is : modules_whole ≡ modules_then told
 
-  pub one-bad : (f : CheckFault) (known : List Known) (types : List TypeEntry) (slots : List Slot) →
-      AfterStart text base tp sp entries (enter_all tp sp (first_types entries) []) (Err f) known types slots → whole ≡ bad f
-  one-bad f known types slots h = ap (λ (o : Out (List ExpandedType) Unit). after o (λ _ ts. after (modules_then ts) closing_then)) (go (enter_all tp sp (first_types entries) []) h)
+  pub one-bad : (f : CheckFault) (known : List Known) (s : State) →
+      AfterKinds text base tp sp entries (enter_all tp sp (first_types entries) []) (Err f) known s → whole ≡ bad f
+  one-bad f known s h = ap (λ (o : Out (List ExpandedType) Unit). after o (λ _ ts. after (modules_then ts) closing_then)) (go (enter_all tp sp (first_types entries) []) h)
     where
-      go : (o : Out (List ExpandedType) Unit) → AfterStart text base tp sp entries o (Err f) known types slots → o ≡ bad f
+      go : (o : Out (List ExpandedType) Unit) → AfterKinds text base tp sp entries o (Err f) known s → o ≡ bad f
       go (bad g) h = let z : g ≡ f = cc in ap bad z
-      go (good x us) h = let y = h.1 in let z : ◌≡◌ {A = ℕ} 0 1 = cc in absurd (omega arith)
+      go (good x us) h = let y = h.0 in let z : ◌≡◌ {A = ℕ} 0 1 = cc in absurd (omega arith)
 
-  pub one : (n : ℕ) (known ks : List Known) (types : List TypeEntry) (slots : List Slot) → take (length entries) known ≡ ks →
-      AfterStart text base tp sp entries (enter_all tp sp (first_types entries) []) (Ok n) known types slots → One n ks types slots
-  one n known ks types slots ke h = go (enter_all tp sp (first_types entries) []) refl h
+  pub one : (known ks : List Known) (s : State) → take (length entries) known ≡ ks →
+      AfterKinds text base tp sp entries (enter_all tp sp (first_types entries) []) (Ok tt) known s → One ks s
+  one known ks s ke h = go (enter_all tp sp (first_types entries) []) refl h
     where
-      go : (o : Out (List ExpandedType) Unit) → enter_all tp sp (first_types entries) [] ≡ o → AfterStart text base tp sp entries o (Ok n) known types slots → One n ks types slots
+      go : (o : Out (List ExpandedType) Unit) → enter_all tp sp (first_types entries) [] ≡ o → AfterKinds text base tp sp entries o (Ok tt) known s → One ks s
       go (bad g) q h = let z : ◌≡◌ {A = ℕ} 0 1 = cc in absurd (omega arith)
       go (good x us) q h =
-          let z : h.0 ≡ n = (let y = h.1 in cc) in
-          let b = h.2 in
+          let b = h.1 in
           record {
             told = us;
             between = record {
-              stands = subst (λ (k : ℕ). Stands text tp sp base (state_in types k slots) us) z b.stands;
-              seen = record { int_is = b.int_is; bool_is = b.bool_is; modules = none_declares; stock = subst (λ (v : List Known). Stocks us v (stock_types (stock_in entries))) ke h.3; used_is = refl; low = omega arith; none = refl; declared = none_declared };
+              stands = b.stands;
+              seen = record { int_is = b.int_is; bool_is = b.bool_is; modules = none_declares; stock = subst (λ (v : List Known). Stocks us v (stock_types (stock_in entries))) ke h.2; used_is = refl; low = omega arith; none = refl; declared = none_declared };
             };
             is = ap (λ (o : Out (List ExpandedType) Unit). after o (λ _ ts. after (modules_then ts) closing_then)) q;
             modules-is = ap (λ (o : Out (List ExpandedType) Unit). after o (λ _. modules_then)) q;
           }
 
   -- after the modules
-  pub record All (known : List Known) (p : Progress) (is : List Interface) (types : List TypeEntry) (slots : List Slot) : Type 0 where
+  pub record All (known : List Known) (p : Progress) (is : List Interface) (s : State) : Type 0 where
     pub scope : rules.Scope
     pub told : List ExpandedType
-    pub between : Between text base known tp sp is types p.count slots p.used told scope
+    pub between : Between text base known tp sp is s p.used told scope
     pub rest-is : whole ≡ closing_then scope told
     pub modules_are : modules_whole ≡ good scope told
 
-  module _ (n : ℕ) (ks : List Known) (types₁ : List TypeEntry) (slots₁ : List Slot) (g : One n ks types₁ slots₁) (et : places types₁ ≡ tp) (es : places slots₁ ≡ sp)
-      (r : Result Progress CheckFault) (interfaces : List Interface) (types₂ : List TypeEntry) (slots₂ : List Slot)
-      (steps : (b : List TypeEntry) (h : rules.Scope) (ts : List ExpandedType) → Start text b ks types₁ n slots₁ ts h →
-      Finish text tree b ks types₁ slots₁ ts h r interfaces types₂ slots₂) where
+  module _ (ks : List Known) (s₁ : State) (g : One ks s₁) (et : places s₁.types ≡ tp) (es : places s₁.slots ≡ sp)
+      (r : Result Progress CheckFault) (interfaces : List Interface) (s₂ : State)
+      (steps : (b : List TypeEntry) (h : rules.Scope) (ts : List ExpandedType) → Start text b ks s₁ ts h →
+      Finish text tree b ks s₁ ts h r interfaces s₂) where
     -- what the modules promise, with the places that the tables had at the start
     abbrev Promise : ℕ → ℕ → Type 0
-    Promise p q = Between text base ks p q [] types₁ n slots₁ 0 g.told (at_start (stock_in entries)) →
-        AfterModules text base ks p q (check_modules p q (modules_of text tree tree) (at_start (stock_in entries)) g.told) r interfaces types₂ slots₂
+    Promise p q = Between text base ks p q [] s₁ 0 g.told (at_start (stock_in entries)) →
+        AfterModules text base ks p q (check_modules p q (modules_of text tree tree) (at_start (stock_in entries)) g.told) r interfaces s₂
 
-    promised : AfterModules text base ks tp sp (modules_then g.told) r interfaces types₂ slots₂
-    promised = subst (λ (q : ℕ). Promise tp q) es (subst (λ (p : ℕ). Promise p (places slots₁)) et (steps base (at_start (stock_in entries)) g.told)) g.between
+    promised : AfterModules text base ks tp sp (modules_then g.told) r interfaces s₂
+    promised = subst (λ (q : ℕ). Promise tp q) es (subst (λ (p : ℕ). Promise p (places s₁.slots)) et (steps base (at_start (stock_in entries)) g.told)) g.between
 
     pub all-bad : (f : CheckFault) → r ≡ Err f → whole ≡ bad f
     all-bad f q = g.is ∙ ap (λ (o : Out (List ExpandedType) rules.Scope). after o closing_then) (go (modules_then g.told) promised)
       where
-        go : (o : Out (List ExpandedType) rules.Scope) → AfterModules text base ks tp sp o r interfaces types₂ slots₂ → o ≡ bad f
+        go : (o : Out (List ExpandedType) rules.Scope) → AfterModules text base ks tp sp o r interfaces s₂ → o ≡ bad f
         go (bad e) h = let z : e ≡ f = cc in ap bad z
         go (good k us) h = let y = h.1 in let z : ◌≡◌ {A = ℕ} 0 1 = cc in absurd (omega arith)
 
-    pub all : (p : Progress) (is : List Interface) → r ≡ Ok p → take p.modules interfaces ≡ is → All ks p is types₂ slots₂
+    pub all : (p : Progress) (is : List Interface) → r ≡ Ok p → take p.modules interfaces ≡ is → All ks p is s₂
     all p is q ie = go (modules_then g.told) refl promised
       where
-        go : (o : Out (List ExpandedType) rules.Scope) → modules_then g.told ≡ o → AfterModules text base ks tp sp o r interfaces types₂ slots₂ →
-            All ks p is types₂ slots₂
+        go : (o : Out (List ExpandedType) rules.Scope) → modules_then g.told ≡ o → AfterModules text base ks tp sp o r interfaces s₂ →
+            All ks p is s₂
         go (bad e) y h = let z : ◌≡◌ {A = ℕ} 0 1 = cc in absurd (omega arith)
         go (good k us) y h =
             let x : h.0 ≡ p = (let v = h.1 in cc) in
             record {
               scope = k;
               told = us;
-              between = subst (λ (js : List Interface). Between text base ks tp sp js types₂ p.count slots₂ p.used us k) ie
-                  (subst (λ (v : Progress). Between text base ks tp sp (take v.modules interfaces) types₂ v.count slots₂ v.used us k) x h.2);
+              between = subst (λ (js : List Interface). Between text base ks tp sp js s₂ p.used us k) ie
+                  (subst (λ (v : Progress). Between text base ks tp sp (take v.modules interfaces) s₂ v.used us k) x h.2);
               rest-is = g.is ∙ ap (λ (o : Out (List ExpandedType) rules.Scope). after o closing_then) y;
               modules_are = g.modules-is ∙ y;
             }
 
-  module _ (known : List Known) (p : Progress) (close : ℕ) (is : List Interface) (types₂ : List TypeEntry) (slots₂ : List Slot) (g : All known p is types₂ slots₂)
-      (et : places types₂ ≡ tp) (es : places slots₂ ≡ sp) (there : exp_at 48 text tree close ≡ Some e)
-      (r : Result (ℕ × ℕ) CheckFault) (types₃ : List TypeEntry) (slots₃ : List Slot)
+  module _ (known : List Known) (p : Progress) (close : ℕ) (is : List Interface) (s₂ : State) (g : All known p is s₂)
+      (et : places s₂.types ≡ tp) (es : places s₂.slots ≡ sp) (there : exp_at 48 text tree close ≡ Some e)
+      (r : Result ℕ CheckFault) (s₃ : State)
       (ends : (b : List TypeEntry) (h : rules.Scope) (ts : List ExpandedType) →
-      Between text b known (places types₂) (places slots₂) is types₂ p.count slots₂ p.used ts h →
-      AfterClosing text tree b (places types₂) (places slots₂) p.used close h ts r types₃ slots₃) where
+      Between text b known (places s₂.types) (places s₂.slots) is s₂ p.used ts h →
+      AfterClosing text tree b (places s₂.types) (places s₂.slots) p.used close h ts r s₃) where
     abbrev Last : ℕ → ℕ → Type 0
-    Last m q = Between text base known m q is types₂ p.count slots₂ p.used g.told g.scope →
-        AfterClosing text tree base m q p.used close g.scope g.told r types₃ slots₃
+    Last m q = Between text base known m q is s₂ p.used g.told g.scope →
+        AfterClosing text tree base m q p.used close g.scope g.told r s₃
 
-    last : ClosedBy text base tp sp p.used g.scope.modules (closing_then g.scope g.told) r types₃ slots₃
-    last = subst (λ (q : ℕ). Last tp q) es (subst (λ (m : ℕ). Last m (places slots₂)) et (ends base g.scope g.told)) g.between e there
+    last : ClosedBy text base tp sp p.used g.scope.modules (closing_then g.scope g.told) r s₃
+    last = subst (λ (q : ℕ). Last tp q) es (subst (λ (m : ℕ). Last m (places s₂.slots)) et (ends base g.scope g.told)) g.between e there
 
     pub closed-bad : (f : CheckFault) → r ≡ Err f → whole ≡ bad f
     closed-bad f q = g.rest-is ∙ go (closing_then g.scope g.told) last
       where
-        go : (o : Out (List ExpandedType) ExpandedType) → ClosedBy text base tp sp p.used g.scope.modules o r types₃ slots₃ → o ≡ bad f
+        go : (o : Out (List ExpandedType) ExpandedType) → ClosedBy text base tp sp p.used g.scope.modules o r s₃ → o ≡ bad f
         go (bad e) h = let z : e ≡ f = cc in ap bad z
         go (good a us) h = let y = h.result in let z : ◌≡◌ {A = ℕ} 0 1 = cc in absurd (omega arith)
 
-    pub closed : (k n : ℕ) → r ≡ Ok (k, n) → Answers text tp sp base modules_whole whole (Ok (k, p.used)) types₃ slots₃
-    closed k n q = rw g.rest-is (go (closing_then g.scope g.told) last)
+    pub closed : (k : ℕ) → r ≡ Ok k → Answers text tp sp base modules_whole whole (Ok (k, p.used)) s₃.types s₃.slots
+    closed k q = rw g.rest-is (go (closing_then g.scope g.told) last)
       where
-        go : (o : Out (List ExpandedType) ExpandedType) → ClosedBy text base tp sp p.used g.scope.modules o r types₃ slots₃ → Answers text tp sp base modules_whole o (Ok (k, p.used)) types₃ slots₃
+        go : (o : Out (List ExpandedType) ExpandedType) → ClosedBy text base tp sp p.used g.scope.modules o r s₃ → Answers text tp sp base modules_whole o (Ok (k, p.used)) s₃.types s₃.slots
         go (bad e) h = let z : ◌≡◌ {A = ℕ} 0 1 = cc in absurd (omega arith)
         go (good a us) h =
-            let pr : ◌≡◌ {A = ℕ × ℕ} (h.number, h.types_then) (k, n) = (let y = h.result in cc) in
-            let x : h.number ≡ k = ap (λ (c : ℕ × ℕ). c.0) pr in
+            let x : h.number ≡ k = (let y = h.result in cc) in
             record {
               number = k;
               used = p.used;
-              types_then = h.types_then;
+              types_then = s₃.count;
               result = refl;
               tells = subst (λ (v : ℕ). slice_get us v ≡ Some a) x h.tells;
               stands = h.stands;

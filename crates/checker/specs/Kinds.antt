@@ -10,12 +10,10 @@ use Rattle.rules.specs.Forms.{Out, bad, good, give, ◌>>◌}
 use Rattle.rules.specs.Checking.{enter_all, kind_types}
 use Rattle.typing.specs.declared.types.TypeEntry.{TypeEntry}
 use Rattle.typing.specs.declared.types.TypeEntry.TheVariants as entry
-use Rattle.typing.specs.declared.types.Slot.{Slot}
 use Rattle.typing.specs.declared.types.Known.{Known}
 use Rattle.typing.specs.Tables.{State, adding, arrow_n}
 use Rattle.typing.specs.Stands.{Stands, Stocks}
 use Rattle.checker.specs.Stocks.{stock_in}
-use Rattle.checker.specs.Sheets.{state_in}
 
 -- the number of the type of an entry of that kind
 abbrev pub kind_n : List ℕ → Kind → State → Out State ℕ
@@ -50,9 +48,3 @@ first_n = adding 0 entry.Int >> (adding 0 entry.Bool >> give tt)
 -- the types that come into the table before anything of a sheet
 abbrev pub first_types : List Entry → List ExpandedType
 first_types entries = int ∷ bool ∷ kind_types (stock_in entries)
-
--- what comes of them: the number of types then
-abbrev pub AfterStart : (text : List ℕ) (base : List TypeEntry) (tp sp : ℕ) → List Entry → Out (List ExpandedType) Unit → Result ℕ CheckFault → List Known → List TypeEntry → List Slot → Type 0
-AfterStart text base tp sp entries (bad f) r known types slots = r ≡ Err f
-AfterStart text base tp sp entries (good x us) r known types slots =
-    (n : ℕ) × (r ≡ Ok n) × Begun text base tp sp (state_in types n slots) us × Stocks us (take (length entries) known) (stock_types (stock_in entries))

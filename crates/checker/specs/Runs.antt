@@ -17,9 +17,13 @@ use Rattle.typing.specs.declared.types.TypeEntry.TheVariants as entry
 use Rattle.typing.specs.declared.types.Slot.{Slot}
 use Rattle.typing.specs.declared.types.Slot.TheVariants as slot
 use Rattle.typing.specs.Stands.{Rows, Stands}
-use Rattle.checker.specs.Sheets.{state_in, places}
+use Rattle.typing.specs.Tables.{State}
+use Rattle.checker.specs.Sheets.{places}
 use Rattle.checker.specs.Stocks.{stock_in}
 use Rattle.checker.specs.Modules.{Declared}
+
+abbrev pub state_in : List TypeEntry → ℕ → List Slot → State
+state_in types count slots = record { types = types; count = count; slots = slots }
 
 -- Where the check of the modules came to m, the scope table has their declarations in its first `used` places.
 pub record Declarations (text : List ℕ) (m : Out (List ExpandedType) rules.Scope) (us : List ExpandedType) (used : ℕ) (slots : List Slot) : Type 0 where

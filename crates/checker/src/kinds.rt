@@ -3,18 +3,14 @@ ghost use Rattle.language.specs.Typing.{ExpandedType};
 ghost use Rattle.rules.specs.Checking.{enter_all, kind_types};
 ghost use Rattle.typing.specs.Tables.{state_of, Kept, Gives};
 ghost use Rattle.typing.specs.Stands.{Stands};
-ghost use Rattle.checker.specs.Sheets.{state_in, Base};
+ghost use Rattle.checker.specs.Sheets.{Base};
 ghost use Rattle.checker.specs.Stocks.{stock_in};
-ghost use Rattle.checker.specs.Kinds.{kind_n, Begun, AfterKinds, first_n, first_types, AfterStart};
+ghost use Rattle.checker.specs.Kinds.{kind_n, Begun, AfterKinds, first_n, first_types};
 
-use grammar::tree::Node;
 use pantry::entries::{Entry, Kind};
 use rules::faults::CheckFault;
 use typing::tables::{BOOL, INT, Tables};
-use typing::types::{Given, Interface, Known, Slot, TypeEntry};
-
-// What is known of the pantry before its entries are typed.
-const NOTHING_KNOWN: &[Known<'static>] = &[];
+use typing::types::{Known, TypeEntry};
 
 // The number of the type of an entry of that kind; an arrow is entered unless it is there.
 fn kind_number(tables: &mut Tables, kind: Kind) -> Result<u16, CheckFault>
@@ -62,50 +58,19 @@ fn first_types(tables: &mut Tables) -> Result<(), CheckFault>
     Ok(())
 }
 
-// What stands in the type table before anything of a sheet is checked; how many types there are.
-fn start<'n>(
+// What stands in the type table before anything of a sheet is checked.
+pub fn start<'n>(
     tables: &mut Tables,
     entries: &[Entry<'n>],
     known: &mut [Known<'n>],
-) -> Result<u16, CheckFault>
+) -> Result<(), CheckFault>
     requires { length entries.now ≤ length known.old }
     ensures kept { Kept tables.old tables.new }
     ensures goes { (base : Base) (tp sp : ℕ) →
         Stands tables.old.given.text.now tp sp base (state_of tables.old) [] →
-        AfterStart tables.old.given.text.now base tp sp entries.now (enter_all tp sp (first_types entries.now) [])
-        result known.new tables.new.types.now tables.new.slots.now }
+        AfterKinds tables.old.given.text.now base tp sp entries.now (enter_all tp sp (first_types entries.now) [])
+        result known.new (state_of tables.new) }
 {
     first_types(tables)?;
-    all_kinds(tables, entries, known)?;
-    Ok(tables.count)
-}
-
-// The same on the lent tables; nothing is known yet.
-pub fn begin<'x, 'n>(
-    text: &'x [u8],
-    tree: &'x [Node],
-    interfaces: &'x [Interface],
-    entries: &[Entry<'n>],
-    known: &mut [Known<'n>],
-    types: &mut [TypeEntry],
-    slots: &mut [Slot],
-) -> Result<u16, CheckFault>
-    requires { length entries.now ≤ length known.old }
-    ensures { (base : Base) (tp sp : ℕ) →
-        Stands text.now tp sp base (state_in types.old 0 slots.old) [] →
-        AfterStart text.now base tp sp entries.now (enter_all tp sp (first_types entries.now) [])
-        result known.new types.new slots.new }
-{
-    let mut tables = Tables {
-        given: Given {
-            text,
-            tree,
-            interfaces,
-            entries: NOTHING_KNOWN,
-        },
-        types,
-        count: 0,
-        slots,
-    };
-    start(&mut tables, entries, known)
+    all_kinds(tables, entries, known)
 }

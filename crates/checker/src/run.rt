@@ -4,12 +4,13 @@ ghost use Rattle.grammar.specs.Table.{exp_at, modules_of};
 ghost use Rattle.checker.specs.Items.{AllIn};
 ghost use Rattle.checker.specs.Runs.{AfterAll};
 
-use crate::kinds::begin;
+use crate::kinds::start;
 use crate::sheets::{all_modules, closing};
 use grammar::tree::Node;
 use pantry::entries::Entry;
 use rules::faults::CheckFault;
-use typing::types::{Interface, Known, Slot, TypeEntry};
+use typing::tables::Tables;
+use typing::types::{Given, Interface, Known, Slot, TypeEntry};
 
 // The whole check on the lent tables: the number of the closing type, and how many places of the scope table the declarations take.
 pub fn run<'x>(
@@ -28,21 +29,28 @@ pub fn run<'x>(
     requires room { length entries.now ≤ length known.old }
     ensures { AfterAll text.now tree.now close entries.now types.old slots.old result types.new slots.new }
 {
-    let count = begin(text, tree, &interfaces[0..0], entries, known, types, slots)?;
-    let n = entries.len();
-    let at = all_modules(text, tree, &known[0..n], interfaces, types, count, slots)?;
-    let modules = at.modules;
-    let used = at.used;
-    let (ty, _) = closing(
+    let given = Given {
         text,
         tree,
-        &interfaces[0..modules],
-        &known[0..n],
+        interfaces: &[],
+        entries: &[],
+    };
+    let mut first = Tables {
+        given,
+        types: &mut *types,
+        count: 0,
+        slots: &mut *slots,
+    };
+    start(&mut first, entries, known)?;
+    let count = first.count;
+    let entries = &known[0..entries.len()];
+    let mut tables = Tables {
+        given: Given { entries, ..given },
         types,
-        at.count,
+        count,
         slots,
-        used,
-        close,
-    )?;
-    Ok((ty, used))
+    };
+    let at = all_modules(&mut tables, interfaces)?;
+    let ty = closing(&mut tables, &interfaces[0..at.modules], at.used, close)?;
+    Ok((ty, at.used))
 }

@@ -1,72 +1,87 @@
-use Rattle.std.proofs.Common.{◌≡◌, ℕ, min, length, drop, Err, Result, sym, ap, ◌∙◌, subst, arith, rules}
+use Rattle.std.proofs.Common.{◌≡◌, ◌≤◌, ◌<◌, ℕ, min, length, drop, Ok, Err, Result, sym, ap, ◌∙◌, subst, arith}
 use Rattle.std.proofs.lemmas.Result.{err_from_is_err_and}
 use Rattle.rules.specs.declared.faults.CheckFault.{CheckFault}
 use Rattle.grammar.specs.Syntax.{count}
 use Rattle.grammar.specs.Table.{modules_of}
+use Rattle.typing.specs.declared.types.Given.{Given}
+use Rattle.typing.specs.Tables.{state_of}
 use Rattle.checker.specs.declared.sheets.Progress.{Progress}
-use Rattle.checker.specs.Sheets.{places, Finish}
+use Rattle.checker.specs.Items.{AllHold}
+use Rattle.checker.specs.Sheets.{places, Finish, StepTold}
 use Rattle.checker.proofs.Goes.{range, one_more, going_on, going-bad, gone}
+use Rattle.checker.proofs.InOrder.{kept_trans}
 use Rattle.checker.proofs.sheets.all_modules.Goals as goal
 
 pub step-requires : goal.step-requires
 step-requires c =
-    let n = one_more c.args.text.now c.args.tree.now c.loop-end.at.start c.in-Some.end c.in-Some.name (sym c.in-Some.ensures) in
-    let i = c.loop-end.invariant.0 in
+    let w = c.args.tables.now.given in
+    let same = c.loop-end.invariant.0.given in
+    let n = one_more w.text.now w.tree.now c.loop-end.at.start c.in-Some.end c.in-Some.name (sym c.in-Some.ensures) in
+    let i = c.loop-end.invariant.1 in
     record {
-      holds = c.requires.holds;
+      holds = subst (λ (v : Given). AllHold v v.tree.now) (sym same) c.requires.holds;
       room = omega arith;
-      range = range c.args.text.now c.args.tree.now c.loop-end.at.start c.in-Some.end c.in-Some.name (sym c.in-Some.ensures);
+      range = subst (λ (v : Given). (c.loop-end.at.start ≤ c.in-Some.end) × (c.in-Some.end < length v.tree.now)) (sym same)
+          (range w.text.now w.tree.now c.loop-end.at.start c.in-Some.end c.in-Some.name (sym c.in-Some.ensures));
     }
 
-pub returns-in_err-at : goal.returns-in_err-at
-returns-in_err-at c =
-    let e = c.in_err-at.ensures in
+pub returns-in_err-at-clause-goes : goal.returns-in_err-at-clause-goes
+returns-in_err-at-clause-goes c =
+    let w = c.args.tables.now.given in
+    let s = state_of c.args.tables.now in
+    let l = state_of c.loop-end.tables in
+    let t = state_of c.step.new.tables in
+    let k = c.loop-end.invariant.0 in
     let p = err_from_is_err_and c.from_residual.result c.from_residual.ensures.1 in
-    record {
-      fits = search rules;
-      goes = λ base h ts s.
-          let kt : length c.loop-end.types ≡ length c.args.types.now = omega arith in
-          let ks : length c.loop-end.slots ≡ length c.args.slots.now = omega arith in
-          subst (λ (r : Result Progress CheckFault). Finish c.args.text.now c.args.tree.now base c.args.entries.now c.args.types.now c.args.slots.now ts h r
-          c.step.new.interfaces c.step.new.types c.step.new.slots) (sym (p.1 ∙ ap Err p.2))
-          (going-bad c.args.text.now c.args.tree.now base c.args.entries.now (places c.args.types.now) (places c.args.slots.now) h ts
-          c.loop-end.interfaces c.loop-end.types c.loop-end.slots c.loop-end.at c.in-Some.end c.in-Some.name (sym c.in-Some.ensures)
-          (c.loop-end.invariant.1 base h ts s) c.step.new.interfaces c.step.new.types c.step.new.slots c.in_err-at.field-0.0
-          (ap (λ (n : ℕ). min n 65535) kt) (ap (λ (n : ℕ). min n 65535) ks) e.goes);
-    }
+    let e = subst (λ (v : Given). StepTold v l t c.loop-end.interfaces c.step.new.interfaces c.loop-end.at c.in-Some.end c.in-Some.name (Err c.in_err-at.field-0.0)) k.given c.in_err-at.ensures.goes in
+    λ base h ts b.
+    subst (λ (r : Result Progress CheckFault). Finish w.text.now w.tree.now base w.entries.now s ts h r c.step.new.interfaces t) (sym (p.1 ∙ ap Err p.2))
+    (going-bad w.text.now w.tree.now base w.entries.now (places s.types) (places s.slots) h ts
+    c.loop-end.interfaces l c.loop-end.at c.in-Some.end c.in-Some.name (sym c.in-Some.ensures)
+    (c.loop-end.invariant.2 base h ts b) c.step.new.interfaces t c.in_err-at.field-0.0
+    (ap (λ (n : ℕ). min n 65535) k.types_long) (ap (λ (n : ℕ). min n 65535) k.slots_long) e)
 
 pub loop-end-smaller : goal.loop-end-smaller
 loop-end-smaller c =
-    let r = range c.args.text.now c.args.tree.now c.loop-end.at.start c.in-Some.end c.in-Some.name (sym c.in-Some.ensures) in
+    let w = c.args.tables.now.given in
+    let r = range w.text.now w.tree.now c.loop-end.at.start c.in-Some.end c.in-Some.name (sym c.in-Some.ensures) in
     let e = c.in_ok-at.ensures.next.1 in
     let a = r.0 in let b = r.1 in
     omega arith
 
 pub loop-end-preserved : goal.loop-end-preserved
 loop-end-preserved c =
-    let e = c.in_ok-at.ensures in
-    let n = one_more c.args.text.now c.args.tree.now c.loop-end.at.start c.in-Some.end c.in-Some.name (sym c.in-Some.ensures) in
-    let i = c.loop-end.invariant.0 in
-    let m = e.next.0 in
-    let q = ap (λ (k : ℕ). count (modules_of c.args.text.now c.args.tree.now (drop k c.args.tree.now))) e.next.1 in
-    let kt : length c.loop-end.types ≡ length c.args.types.now = omega arith in
-    let ks : length c.loop-end.slots ≡ length c.args.slots.now = omega arith in
-    let ki : length c.step.new.interfaces ≡ length c.loop-end.interfaces = omega arith in (
+    let w = c.args.tables.now.given in
+    let s = state_of c.args.tables.now in
+    let l = state_of c.loop-end.tables in
+    let t = state_of c.step.new.tables in
+    let k = c.loop-end.invariant.0 in
+    let next = c.in_ok-at.ensures.next in
+    let n = one_more w.text.now w.tree.now c.loop-end.at.start c.in-Some.end c.in-Some.name (sym c.in-Some.ensures) in
+    let i = c.loop-end.invariant.1 in
+    let m = next.0 in
+    let q = ap (λ (j : ℕ). count (modules_of w.text.now w.tree.now (drop j w.tree.now))) next.1 in
+    let ki : length c.step.new.interfaces ≡ length c.loop-end.interfaces = omega arith in
+    let e = subst (λ (v : Given). StepTold v l t c.loop-end.interfaces c.step.new.interfaces c.loop-end.at c.in-Some.end c.in-Some.name (Ok c.in_ok-at.at)) k.given c.in_ok-at.ensures.goes in (
+      kept_trans c.args.tables.now c.loop-end.tables c.step.new.tables k c.in_ok-at.ensures.kept,
       omega arith,
-      λ base h ts s.
-          going_on c.args.text.now c.args.tree.now base c.args.entries.now (places c.args.types.now) (places c.args.slots.now) h ts
-          c.loop-end.interfaces c.loop-end.types c.loop-end.slots c.loop-end.at c.in-Some.end c.in-Some.name (sym c.in-Some.ensures)
-          (c.loop-end.invariant.1 base h ts s) c.step.new.interfaces c.step.new.types c.step.new.slots c.in_ok-at.at
-          (ap (λ (n : ℕ). min n 65535) kt) (ap (λ (n : ℕ). min n 65535) ks) e.goes e.next.1,
+      λ base h ts b.
+          going_on w.text.now w.tree.now base w.entries.now (places s.types) (places s.slots) h ts
+          c.loop-end.interfaces l c.loop-end.at c.in-Some.end c.in-Some.name (sym c.in-Some.ensures)
+          (c.loop-end.invariant.2 base h ts b) c.step.new.interfaces t c.in_ok-at.at
+          (ap (λ (n : ℕ). min n 65535) k.types_long) (ap (λ (n : ℕ). min n 65535) k.slots_long) e next.1,
     )
 
 pub returns : goal.returns
 returns c =
-    let i = c.loop-end.invariant.0 in
+    let w = c.args.tables.now.given in
+    let s = state_of c.args.tables.now in
+    let i = c.loop-end.invariant.1 in
     let k : length c.loop-end.interfaces ≡ length c.args.interfaces.now = omega arith in
     record {
+      kept = c.loop-end.invariant.0;
       fits = omega arith;
-      goes = λ base h ts s.
-          gone c.args.text.now c.args.tree.now base c.args.entries.now (places c.args.types.now) (places c.args.slots.now) h ts
-          c.loop-end.interfaces c.loop-end.types c.loop-end.slots c.loop-end.at (sym c.in_default.ensures) (c.loop-end.invariant.1 base h ts s);
+      goes = λ base h ts b.
+          gone w.text.now w.tree.now base w.entries.now (places s.types) (places s.slots) h ts
+          c.loop-end.interfaces (state_of c.loop-end.tables) c.loop-end.at (sym c.in_default.ensures) (c.loop-end.invariant.2 base h ts b);
     }
