@@ -13,7 +13,7 @@ use Rattle.language.proofs.Alike.{map_linked, nearest-map}
 use Rattle.job.specs.declared.tables.Cell.{Cell}
 use Rattle.job.specs.declared.tables.Cell.TheVariants as cell
 use Rattle.job.specs.declared.tables.Value.{Value}
-use Rattle.job.specs.declared.registers.ModuleScope.{ModuleScope}
+use Rattle.job.specs.declared.course.ModuleScope.{ModuleScope}
 use Rattle.job.specs.Maps.{value_of, cell_of, scope_of}
 use Rattle.job.specs.Lookups.{held_cell, maybe}
 

@@ -4,7 +4,7 @@ ghost use Rattle.language.specs.Machine.{nearest as nearest_of};
 ghost use Rattle.job.specs.Maps.{value_of, cell_of, scope_of};
 ghost use Rattle.job.specs.Lookups.{held_cell, maybe, same};
 
-use crate::registers::ModuleScope;
+use crate::course::ModuleScope;
 use crate::tables::{Cell, Value};
 use language::bindings::{Binding, Holds, nearest};
 use language::spans::spelled;

@@ -1,4 +1,4 @@
-use Rattle.std.proofs.Common.{◌≡◌, ℕ, ◌-◌, length, take, replicate, ap, ◌∙◌}
+use Rattle.std.proofs.Common.{◌≡◌, ℕ, length, take, replicate, ap, ◌∙◌}
 use Rattle.job.proofs.Within.{lent, back, behind, lent_length}
 use Rattle.job.proofs.calls.blank.Goals as goal
 
@@ -8,7 +8,7 @@ returns g c =
     let ys = c.fill.new.table in
     let n = c.limited-n.result in
     let e = c.limited-n.ensures in
-    let k : length (take (n - 0) xs) ≡ n = ap length (lent xs n e) ∙ lent_length xs n e in
+    let k : length (take n xs) ≡ n = ap length (lent xs n e) ∙ lent_length xs n e in
     let l : length ys ≡ n = c.fill.auto.table ∙ k in
     record {
       is = back xs ys n e l ∙ (c.fill.ensures ∙ ap (λ (m : ℕ). replicate m c.args.empty) (k ∙ e));

@@ -11,24 +11,20 @@ returns g c =
     let m = c.limited-f.ensures in
     let cells = c.args.cells.now in
     let frames = c.args.frames.now in
-    let cs = c.stepping.new.cells in
-    let fs = c.stepping.new.frames in
-    let k : length cs ≡ c.limited-c.result = c.stepping.auto.cells ∙
+    let on = c.stepping_on.new in
+    let k : length on.cells ≡ c.limited-c.result = c.stepping_on.auto.cells ∙
     (ap length (lent cells c.limited-c.result n) ∙ lent_length cells c.limited-c.result n) in
-    let l : length fs ≡ c.limited-f.result = c.stepping.auto.frames ∙
+    let l : length on.frames ≡ c.limited-f.result = c.stepping_on.auto.frames ∙
     (ap length (lent frames c.limited-f.result m) ∙ lent_length frames c.limited-f.result m) in
     let R : List Cell → List Cell → List Frame → List Frame → Type 0 = λ x x' y y'.
-    Advances c.args.program (g.P.Pantry.meaning c.args.pantry.now) c.args.scopes.now c.stepping.new.scopes x x' y y'
-    c.args.start c.args.made c.args.allowance c.stepping.result in
+    Advances (g.P.Pantry.meaning c.args.pantry.now) c.args.sheet (record { course = c.args.course.now; cells = x; frames = y })
+    (record { course = on.course; cells = x'; frames = y' }) c.args.registers c.args.made c.args.allowance c.stepping_on.result in
     record {
-      is = carried R (lent cells c.limited-c.result n) (sym (back cells cs c.limited-c.result n k))
-          (lent frames c.limited-f.result m) (sym (back frames fs c.limited-f.result m l)) c.stepping.ensures.is;
+      is = carried R (lent cells c.limited-c.result n) (sym (back cells on.cells c.limited-c.result n k))
+          (lent frames c.limited-f.result m) (sym (back frames on.frames c.limited-f.result m l)) c.stepping_on.ensures.is;
       behind = record {
-        cells_stay = behind cells cs c.limited-c.result n k;
-        frames_stay = behind frames fs c.limited-f.result m
-            l;
+        cells_stay = behind cells on.cells c.limited-c.result n k;
+        frames_stay = behind frames on.frames c.limited-f.result m l;
       };
-      size = c.stepping.ensures.size;
-      room = c.stepping.ensures.room;
-      counted = c.stepping.ensures.counted;
+      tree = c.stepping_on.ensures.tree;
     }
