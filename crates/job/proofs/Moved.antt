@@ -1,10 +1,11 @@
 -- Each action on the tables is the machine's.
-use Rattle.std.proofs.Common.{◌≡◌, ℕ, zero, suc, ◌≤◌, Bool, ltb, List, [], ◌∷◌, map, length, set, sym, refl, ap, ◌∙◌, arith}
+use Rattle.std.proofs.Common.{◌≡◌, ℕ, suc, ◌-◌, Bool, ltb, List, map, length, set, sym, ap, ◌∙◌}
 use lib.ListN.{length-map}
 use lib.Seq.{map-set}
 use Rattle.std.specs.Prelude.{Some, None, Ok, Err, Option as Maybe, Result}
 use Rattle.std.specs.Result.{IsErrAnd}
-use Rattle.language.specs.Machine.{Store, Registers as Regs, Control, next, stop, onward, with_cell, with_frame, begin}
+use Rattle.language.specs.Pantry.{Pantry}
+use Rattle.language.specs.Machine.{Store, Registers as Regs, Control, Outcome, next, stop, perform, onward, with_cell, with_frame, begin}
 use Rattle.language.specs.Names.{Binding}
 use Rattle.language.specs.Scopes.{Scope}
 use Rattle.language.specs.Tree.{Task}
@@ -13,14 +14,10 @@ use Rattle.job.specs.declared.tables.Frame.{Frame}
 use Rattle.job.specs.declared.tables.Value.{Value}
 use Rattle.job.specs.declared.reasons.Reason.{Reason}
 use Rattle.job.specs.declared.machine.Machine.{Machine}
-use Rattle.job.specs.Maps.{cell_of, frame_of, stored, reason_of}
+use Rattle.job.specs.declared.actions.Action.{Action}
+use Rattle.job.specs.Maps.{cell_of, frame_of, stored, reason_of, action_of}
+use Rattle.job.specs.Machines.{text_of, program_of, store_of, state_of}
 use Rattle.job.specs.Performs.{outcome_of}
-
--- no write past the end
-pub set_past : {X : Type 0} → (xs : List X) (i : ℕ) (x : X) → length xs ≤ i → xs ≡ set xs i x
-set_past [] i x h = refl
-set_past (y ∷ ys) zero x h = absurd (omega arith)
-set_past (y ∷ ys) (suc i) x h = ap (λ zs. y ∷ zs) (set_past ys i x (omega arith))
 
 -- a step goes on with the same store, control and counts
 pub onward-same : (g : Regs) {s s' : Store} {c c' : Control} {u u' n n' : ℕ} → s ≡ s' → c ≡ c' → u ≡ u' → n ≡ n' →
@@ -74,3 +71,11 @@ pub stopped-as : (m : Machine) (r : Result (Maybe Value) Reason) (k : Reason) �
 stopped-as m (Ok None) k h = absurd h
 stopped-as m (Ok (Some v)) k h = absurd h
 stopped-as m (Err e) k h = ap (λ x. stop (reason_of x)) h
+
+-- what an action comes to on a machine
+abbrev pub acted : Pantry → Machine → Action → Outcome
+acted p m a = perform (program_of p m) (store_of m) (state_of m) (action_of (text_of m) (m.registers.frames - 1) a)
+
+-- what an arm does is what its action asks
+pub as-asked : (p : Pantry) (m : Machine) {a b : Action} {o : Outcome} → a ≡ b → o ≡ acted p m b → o ≡ acted p m a
+as-asked p m e h = h ∙ ap (acted p m) (sym e)

@@ -1,5 +1,5 @@
 -- From the tables that count to the store that was lent.
-use Rattle.std.proofs.Common.{◌≡◌, ℕ, ◌+◌, min, List, map, length, take, replicate, sym, refl, ap, ◌∙◌, arith, length-take}
+use Rattle.std.proofs.Common.{◌≡◌, ℕ, ◌+◌, min, List, map, length, take, replicate, sym, ap, ◌∙◌, arith, length-take}
 use lib.ListN.{length-map}
 use lib.LanesLaws.{map-replicate}
 use Rattle.std.proofs.lemmas.List.{take-map}
@@ -7,7 +7,7 @@ use Rattle.language.specs.Tree.{Plan}
 use Rattle.language.specs.Pantry.{Pantry}
 use Rattle.language.specs.Machine as machine
 use Rattle.language.specs.Job as language
-use Rattle.language.proofs.Advances.{advances-add, ended-stays}
+use Rattle.language.proofs.Advances.{advances-add}
 use Rattle.grammar.specs.Plan.{plan_of}
 use Rattle.grammar.specs.declared.sheet.ReadSheet.{ReadSheet}
 use Rattle.job.specs.declared.tables.Cell.{Cell}
@@ -15,7 +15,7 @@ use Rattle.job.specs.declared.tables.Cell.TheVariants as cell
 use Rattle.job.specs.declared.tables.Frame.{Frame}
 use Rattle.job.specs.declared.tables.Frame.TheVariants as frame
 use Rattle.job.specs.declared.answers.Status.{Status}
-use Rattle.job.specs.declared.answers.Status.TheVariants.{Running, Finished, Stopped}
+use Rattle.job.specs.declared.answers.Status.TheVariants.{Running}
 use Rattle.job.specs.declared.answers.Progress.{Progress}
 use Rattle.job.specs.declared.course.Course.{Course}
 use Rattle.job.specs.declared.registers.Registers.{Registers}
@@ -65,14 +65,6 @@ advanced-is s c c' m cells cells' frames frames' g x n a r q h =
     (ap (λ (y : machine.Store). language.stepping w a y (language.running (registers_of s.text.now c g)) n)
     (sym (lent_is s.text.now cells frames)) ∙
     ap (λ (y : Status). language.stepping w a (lent_as s.text.now cells frames) (status_of s.text.now c y) n) (sym q)))
-
--- an ended job stays as it is
-pub ended_is : (w : machine.Program) (s : machine.Store) (text : List ℕ) (c : Course) (x : Status) (n a : ℕ) →
-    ((g : Registers) → x ≡ Running g → ⊥) →
-    language.moment s (status_of text c x) n ≡ language.stepping w a s (status_of text c x) n
-ended_is w s text c (Running g) n a h = absurd (h g refl)
-ended_is w s text c (Finished v) n a h = sym (ended-stays w a s _ tt)
-ended_is w s text c (Stopped k) n a h = sym (ended-stays w a s _ tt)
 
 -- an advance and then another
 pub adds : (plan : Plan) (p : Pantry) (a b : ℕ) (m n : language.Moment) → n ≡ language.after plan p a m →

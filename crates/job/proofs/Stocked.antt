@@ -4,7 +4,6 @@ use mathlib.Core.Option.{Option, none, some}
 use Rattle.std.specs.Prelude.{Some, Ok, Err, Result}
 use Rattle.std.specs.Result.{OkIff, result_ok}
 use lib.ListN.{get_elem?}
-use Rattle.std.proofs.lemmas.List.{drop_all}
 use Rattle.words.specs.Names.{Name, same_name}
 use Rattle.language.specs.Names.{bind, lookup}
 use Rattle.language.specs.Pantry.{Pantry, Kind, stock_of}
@@ -32,9 +31,6 @@ module _ (p : Pantry) (x : Name) (i : ℕ) where
 
   pub no-entry : none ≡ get_elem? (stock_of p) i → from i ≡ none
   no-entry h = no-entry-from p i i x (sym h)
-
-  pub no_more : length p ≤ i → from i ≡ none
-  no_more l = ap (λ (q : Pantry). lookup (numbered_from i q) x) (drop_all i p l)
 
   pub named_here : (y : Name) (q : Kind) → some (bind y q) ≡ get_elem? (stock_of p) i → same_name y x ≡ true → from i ≡ some (numbered i q)
   named_here y q h t =

@@ -1,6 +1,6 @@
 -- The places of a table that count, lent and given back.
-use Rattle.std.proofs.Common.{◌≡◌, ℕ, ◌<◌, ◌≤◌, min, List, ◌++◌, length, take, drop, sym, ap, ◌∙◌, subst, ⊎_elim, eq-or-lt_of_le, arith, length-take}
-use Rattle.std.proofs.lemmas.List.{take_all, drop_all, take_at, append-nil}
+use Rattle.std.proofs.Common.{◌≡◌, ℕ, ◌<◌, ◌≤◌, min, List, ◌++◌, length, take, drop, replicate, sym, ap, ◌∙◌, subst, ⊎_elim, eq-or-lt_of_le, arith, length-take}
+use Rattle.std.proofs.lemmas.List.{take_all, drop_all, take_at, append-nil, length-replicate}
 use Rattle.std.proofs.lemmas.Slice.{drop-append-drop}
 use Rattle.job.specs.Advances.{within, behind as behind-of}
 
@@ -39,3 +39,11 @@ pub carried : {X Y : Type 0} → (R : X → X → Y → Y → Type 0) {a a' b b'
 carried {X} {Y} R {a} {a'} {b} {b'} {c} {c'} {d} {d'} p q r s h =
     subst (λ (x : Y). R a' b' c' x) s (subst (λ (x : Y). R a' b' x d) r
     (subst (λ (x : X). R a' x c d) q (subst (λ (x : X). R x b c d) p h)))
+
+-- the part that is lent, filled with one value
+pub wiped : {X : Type 0} → (xs ys : List X) (n : ℕ) (x : X) → n ≡ min 65535 (length xs) → ys ≡ replicate (length (take n xs)) x →
+    (within (ys ++ drop n xs) ≡ replicate (min 65535 (length xs)) x) × (behind-of (ys ++ drop n xs) ≡ behind-of xs)
+wiped xs ys n x e f =
+    let k : length (take n xs) ≡ n = ap length (lent xs n e) ∙ lent_length xs n e in
+    let l : length ys ≡ n = ap length f ∙ (length-replicate (length (take n xs)) x ∙ k) in
+    (back xs ys n e l ∙ (f ∙ ap (λ (m : ℕ). replicate m x) (k ∙ e)), behind xs ys n e l)

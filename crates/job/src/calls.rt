@@ -15,31 +15,16 @@ use crate::tables::{Cell, Frame};
 use checker::passes::Pass;
 use pantry::pantries::Pantry;
 
-fn fill<T: Copy>(table: &mut [T], empty: T)
-    ensures { table.new ≡ replicate (length table.old) empty }
-{
-    for x in table.iter_mut() {
-        *x = empty;
-    }
-}
-
-// Blanks the places that count.
-fn blank<T: Copy>(table: &mut [T], empty: T)
-    ensures is { within table.new ≡ replicate (min 65535 (length table.old)) empty }
-    ensures behind { behind table.new ≡ behind table.old }
-{
-    let n = limited(table.len());
-    fill(&mut table[..n], empty);
-}
-
-// Blanks both tables.
+// Blanks the places of both tables that count.
 fn blank_tables(cells: &mut [Cell], frames: &mut [Frame])
     ensures is { (p : Passed) → store_for p cells.new frames.new ≡
         blanked (store_for p cells.old frames.old) }
     ensures behind { Behind cells.old cells.new frames.old frames.new }
 {
-    blank(cells, Cell::Blank);
-    blank(frames, Frame::Blank);
+    let c = limited(cells.len());
+    cells[..c].fill(Cell::Blank);
+    let f = limited(frames.len());
+    frames[..f].fill(Frame::Blank);
 }
 
 // What the answer says of how a job stands.

@@ -42,10 +42,8 @@ pub(crate) fn value_of(text: &[u8], cells: &[Cell], scope: u16, name: &[u8]) -> 
 pub(crate) fn module_scope(text: &[u8], scopes: &[ModuleScope], name: &[u8]) -> Option<u16>
     ensures { maybe same result ≡ lookup (map (scope_of text.now) scopes.now) name.now }
 {
-    for m in scopes {
-        if same_name(spelled(text, m.name), name) {
-            return Some(m.scope);
-        }
-    }
-    None
+    let module = scopes
+        .iter()
+        .find(|m| same_name(spelled(text, m.name), name))?;
+    Some(module.scope)
 }

@@ -67,7 +67,7 @@ fn one_more(used: u16, len: usize, full: Reason) -> Result<u16, Reason>
     }
 }
 
-// Writes a place, if there is such a one.
+// Writes a place, if there is such a one. Not by `get_mut`, which does not tell what a slice is after it.
 fn write<T: Copy>(table: &mut [T], place: u16, content: T)
     ensures { table.new ≡ slice_set table.old place content }
 {

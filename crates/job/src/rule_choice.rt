@@ -151,10 +151,7 @@ fn called(node: Node, scope: u16, value: Value) -> Option<Action>
 fn operated(operator: Operator, left: Value, right: Value) -> Option<Action>
     ensures { Asks result (λ text d. computing d (plain_o operator) (value_of left) (value_of right)) }
 {
-    let Value::Integer(left) = left else {
-        return None;
-    };
-    let Value::Integer(right) = right else {
+    let (Value::Integer(left), Value::Integer(right)) = (left, right) else {
         return None;
     };
     Some(Action::Hands {
