@@ -47,3 +47,6 @@ wiped xs ys n x e f =
     let k : length (take n xs) ≡ n = ap length (lent xs n e) ∙ lent_length xs n e in
     let l : length ys ≡ n = ap length f ∙ (length-replicate (length (take n xs)) x ∙ k) in
     (back xs ys n e l ∙ (f ∙ ap (λ (m : ℕ). replicate m x) (k ∙ e)), behind xs ys n e l)
+
+pub back_length : {X : Type 0} → (xs ys : List X) (n : ℕ) → n ≡ min 65535 (length xs) → length ys ≡ length (take n xs) → length ys ≡ n
+back_length xs ys n e l = l ∙ (ap length (lent xs n e) ∙ lent_length xs n e)

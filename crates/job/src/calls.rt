@@ -10,7 +10,7 @@ ghost use Rattle.job.specs.Jobs.{plan_for, store_for, started, job_of, moment_of
 use crate::answers::{Answer, Progress, Status};
 use crate::course::Course;
 use crate::jobs::Job;
-use crate::steps::{limited, stepping_within};
+use crate::steps::{limited, stepping_on};
 use crate::tables::{Cell, Frame};
 use checker::passes::Pass;
 use pantry::pantries::Pantry;
@@ -103,11 +103,13 @@ impl<'t, 'r, 'y, 'e, 'n> Job<'t, 'r, 'y, 'e, 'n> {
         let Status::Running(registers) = self.progress.status else {
             return;
         };
-        self.progress = stepping_within(
+        let c = limited(cells.len());
+        let f = limited(frames.len());
+        self.progress = stepping_on(
             self.pass.sheet,
             &mut self.course,
-            cells,
-            frames,
+            &mut cells[..c],
+            &mut frames[..f],
             registers,
             self.progress.steps,
             pantry,

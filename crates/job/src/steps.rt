@@ -2,7 +2,7 @@ ghost use Rattle.std.specs.Prelude.{◌≡◌, ◌≤◌, min, length};
 ghost use Rattle.language.specs.Job.{step_limit};
 ghost use Rattle.language.specs.Step.{step as step_of};
 ghost use Rattle.job.specs.Performs.{Performs, Same, Spared};
-ghost use Rattle.job.specs.Advances.{Advances, within, Behind};
+ghost use Rattle.job.specs.Advances.{Advances};
 
 use crate::answers::{Progress, Status};
 use crate::course::Course;
@@ -72,7 +72,7 @@ pub(crate) fn limited(len: usize) -> usize
 }
 
 // A job that has not ended goes on for at most so many steps, on these tables.
-fn stepping_on<'t, 'r, P: Pantry>(
+pub(crate) fn stepping_on<'t, 'r, P: Pantry>(
     sheet: ReadSheet<'t, 'r>,
     course: &mut Course<'r>,
     cells: &mut [Cell],
@@ -99,37 +99,4 @@ fn stepping_on<'t, 'r, P: Pantry>(
         frames,
     };
     machine.stepping(made, pantry, allowance)
-}
-
-// The same on the places that count.
-pub(crate) fn stepping_within<'t, 'r, P: Pantry>(
-    sheet: ReadSheet<'t, 'r>,
-    course: &mut Course<'r>,
-    cells: &mut [Cell],
-    frames: &mut [Frame],
-    registers: Registers,
-    made: u32,
-    pantry: &P,
-    allowance: u32,
-) -> Progress
-    requires { made ≤ step_limit }
-    ensures is { Advances (P.meaning pantry.now) sheet.entry
-        (record { course = course.old; cells = within cells.old; frames = within frames.old })
-        (record { course = course.new; cells = within cells.new; frames = within frames.new })
-        registers made allowance result }
-    ensures behind { Behind cells.old cells.new frames.old frames.new }
-    ensures tree { course.new.tree ≡ course.old.tree }
-{
-    let c = limited(cells.len());
-    let f = limited(frames.len());
-    stepping_on(
-        sheet,
-        course,
-        &mut cells[..c],
-        &mut frames[..f],
-        registers,
-        made,
-        pantry,
-        allowance,
-    )
 }
