@@ -1,9 +1,11 @@
 -- The search in the cells, and among the modules whose bodies have ended.
-use Rattle.std.proofs.Common.{◌≡◌, ℕ, zero, suc, ◌+◌, ◌<◌, ◌≤◌, Bool, true, false, cond, List, [], ◌∷◌, map, length, get_or, drop, sym, refl, ap, ◌∙◌, add-one, drop-cons}
+use Rattle.std.proofs.Common.{◌≡◌, ℕ, zero, suc, Bool, true, false, cond, List, [], ◌∷◌, map, get_or, Some, None, Option as Maybe, sym, refl, ap, ◌∙◌}
+use Rattle.std.specs.Option.{option_map}
+use Rattle.std.specs.List.{find}
+use denote.Bor.{Bor}
 use mathlib.Core.Option
 use mathlib.Core.Option.{Option, none, some}
 use lib.ListN.{get_elem?}
-use Rattle.std.proofs.lemmas.List.{drop_all}
 use Rattle.words.specs.Names.{Name, same_name}
 use Rattle.language.specs.Names.{lookup}
 use Rattle.language.specs.Scopes.{Scope, nearest_in}
@@ -13,7 +15,7 @@ use Rattle.language.proofs.Alike.{map_linked, nearest-map}
 use Rattle.job.specs.declared.tables.Cell.{Cell}
 use Rattle.job.specs.declared.tables.Cell.TheVariants as cell
 use Rattle.job.specs.declared.tables.Value.{Value}
-use Rattle.job.specs.declared.registers.ModuleScope.{ModuleScope}
+use Rattle.job.specs.declared.course.ModuleScope.{ModuleScope}
 use Rattle.job.specs.Maps.{value_of, cell_of, scope_of}
 use Rattle.job.specs.Lookups.{held_cell, maybe}
 
@@ -40,19 +42,26 @@ nearest-is text cs s x =
     mapped-option (nearest_in (bindings_in held_cell text cs) s x) ∙
     sym (nearest-map value_of (bindings_in held_cell text cs) (machine.held_at (map (cell_of text) cs)) (λ i. place-held text i i cs) x s)
 
-module _ (text : List ℕ) (ms : List ModuleScope) (i : ℕ) where
-  pub scope-here : (d : ModuleScope) (x : Name) → i < length ms → same_name (spelled_in text (get_or ms i d).name) x ≡ true →
-      lookup (map (scope_of text) (drop i ms)) x ≡ some (get_or ms i d).scope
-  scope-here d x l s =
-      ap (λ r. lookup (map (scope_of text) r) x) (drop-cons ms i d l) ∙
-      ap (λ (b : Bool). cond b (some (get_or ms i d).scope) (lookup (map (scope_of text) (drop (suc i) ms)) x)) s
+picked : {X Y : Type 0} → (f : X → Y) (b : Bool) (x : X) (o : Maybe X) → maybe f (cond b (Some x) o) ≡ cond b (some (f x)) (maybe f o)
+picked f true x o = refl
+picked f false x o = refl
 
-  pub scope-on : (d : ModuleScope) (x : Name) → i < length ms → same_name (spelled_in text (get_or ms i d).name) x ≡ false →
-      lookup (map (scope_of text) (drop i ms)) x ≡ lookup (map (scope_of text) (drop (i + 1) ms)) x
-  scope-on d x l s =
-      ap (λ r. lookup (map (scope_of text) r) x) (drop-cons ms i d l) ∙
-      (ap (λ (b : Bool). cond b (some (get_or ms i d).scope) (lookup (map (scope_of text) (drop (suc i) ms)) x)) s ∙
-      ap (λ k. lookup (map (scope_of text) (drop k ms)) x) (sym (add-one i)))
+found-first : (text : List ℕ) (ms : List ModuleScope) (x : Name) →
+    maybe (λ (m : ModuleScope). m.scope) (find (λ m. same_name (spelled_in text m.name) x) ms) ≡ lookup (map (scope_of text) ms) x
+found-first text [] x = refl
+found-first text (m ∷ ms) x =
+    let b = same_name (spelled_in text m.name) x in
+    picked (λ (m : ModuleScope). m.scope) b m (find (λ m. same_name (spelled_in text m.name) x) ms) ∙
+    ap (λ o. cond b (some m.scope) o) (found-first text ms x)
 
-  pub scope-none : (x : Name) → length ms ≤ i → lookup (map (scope_of text) (drop i ms)) x ≡ none
-  scope-none x l = ap (λ r. lookup (map (scope_of text) r) x) (drop_all i ms l)
+-- the module that the code finds is the one that is looked up
+pub scope-found : (text : List ℕ) (ms : List ModuleScope) (x : Name) (o p : Maybe (Bor ModuleScope)) → o ≡ p →
+    option_map (λ y. y.now) o ≡ find (λ m. same_name (spelled_in text m.name) x) ms →
+    maybe (λ (y : Bor ModuleScope). y.now.scope) p ≡ lookup (map (scope_of text) ms) x
+scope-found text ms x o p e h = inside p ∙ (ap (λ q. maybe (λ (m : ModuleScope). m.scope) (option_map (λ y. y.now) q)) (sym e) ∙
+    (ap (maybe (λ (m : ModuleScope). m.scope)) h ∙ found-first text ms x))
+  where
+    inside : (q : Maybe (Bor ModuleScope)) → maybe (λ (y : Bor ModuleScope). y.now.scope) q ≡
+        maybe (λ (m : ModuleScope). m.scope) (option_map (λ y. y.now) q)
+    inside None = refl
+    inside (Some y) = refl

@@ -1,7 +1,6 @@
 mod Rounds
 mod Found
 mod Stocked
-mod Places
 mod Ways
 mod Tasks
 mod Moved

@@ -1,26 +1,23 @@
 -- Each action on the tables is the machine's.
-use Rattle.std.proofs.Common.{◌≡◌, ℕ, zero, suc, ◌+◌, ◌≤◌, Bool, ltb, List, [], ◌∷◌, map, length, set, sym, refl, ap, ◌∙◌, subst, arith}
+use Rattle.std.proofs.Common.{◌≡◌, ℕ, suc, ◌-◌, Bool, ltb, List, map, length, set, sym, ap, ◌∙◌}
 use lib.ListN.{length-map}
 use lib.Seq.{map-set}
-use Rattle.language.specs.Machine.{Store, Registers as Regs, Control, next, onward, with_cell, with_frame, begin}
+use Rattle.std.specs.Prelude.{Some, None, Ok, Err, Option as Maybe, Result}
+use Rattle.std.specs.Result.{IsErrAnd}
+use Rattle.language.specs.Pantry.{Pantry}
+use Rattle.language.specs.Machine.{Store, Registers as Regs, Control, Outcome, next, stop, perform, onward, with_cell, with_frame, begin}
 use Rattle.language.specs.Names.{Binding}
 use Rattle.language.specs.Scopes.{Scope}
 use Rattle.language.specs.Tree.{Task}
-use Rattle.grammar.specs.declared.tree.Node.{Node}
-use Rattle.job.specs.declared.registers.Registers.{Registers}
-use Rattle.job.specs.declared.actions.Outcome.{Outcome}
-use Rattle.job.specs.declared.actions.Outcome.TheVariants.{Next, Done, Stop}
 use Rattle.job.specs.declared.tables.Cell.{Cell}
 use Rattle.job.specs.declared.tables.Frame.{Frame}
-use Rattle.job.specs.Maps.{cell_of, frame_of, stored}
-use Rattle.job.specs.Begins.{Room, ends_from}
-use Rattle.job.specs.Performs.{Stays, StaysIf, RoomAfter}
-
--- no write past the end
-pub set_past : {X : Type 0} → (xs : List X) (i : ℕ) (x : X) → length xs ≤ i → xs ≡ set xs i x
-set_past [] i x h = refl
-set_past (y ∷ ys) zero x h = absurd (omega arith)
-set_past (y ∷ ys) (suc i) x h = ap (λ zs. y ∷ zs) (set_past ys i x (omega arith))
+use Rattle.job.specs.declared.tables.Value.{Value}
+use Rattle.job.specs.declared.reasons.Reason.{Reason}
+use Rattle.job.specs.declared.machine.Machine.{Machine}
+use Rattle.job.specs.declared.actions.Action.{Action}
+use Rattle.job.specs.Maps.{cell_of, frame_of, stored, reason_of, action_of}
+use Rattle.job.specs.Machines.{text_of, program_of, store_of, state_of}
+use Rattle.job.specs.Performs.{outcome_of}
 
 -- a step goes on with the same store, control and counts
 pub onward-same : (g : Regs) {s s' : Store} {c c' : Control} {u u' n n' : ℕ} → s ≡ s' → c ≡ c' → u ≡ u' → n ≡ n' →
@@ -56,26 +53,29 @@ pub free-cell : (text : List ℕ) (cells : List Cell) (u : ℕ) (b : Bool) → b
     ltb u (length (map (cell_of text) cells)) ≡ b
 free-cell text cells u b e = ap (ltb u) (length-map cells (cell_of text)) ∙ sym e
 
--- a job that keeps its place among the definitions keeps its room
-pub room-stays : (nodes : List Node) (g r : Registers) → Stays g r → Room nodes g → Room nodes r
-room-stays nodes g r e h =
-    let P : ℕ → Type 0 = λ (i : ℕ). i + ends_from nodes r.next ≤ 32 in
-    let Q : ℕ → Type 0 = λ (i : ℕ). g.ended + ends_from nodes i ≤ 32 in
-    subst P (sym e.1) (subst Q (sym e.0) h)
-
-pub room_after : (nodes : List Node) (g : Registers) (o : Outcome) → StaysIf g o → Room nodes g → RoomAfter nodes o
-room_after nodes g (Next r) e h = room-stays nodes g r e h
-room_after nodes g (Done v) e h = tt
-room_after nodes g (Stop k) e h = tt
-
 -- a definition is bound
 pub defined : (s s' : Store) (r : Regs) (close u n : ℕ) (hs : List (Binding Scope)) (ts : List Task) → s ≡ s' → n ≡ suc u →
     r ≡ begin close n hs n ts → next s r ≡ next s' (begin close (suc u) hs (suc u) ts)
 defined s s' r close u n hs ts p q e =
     ap (λ (x : Store). next x r) p ∙ ap (next s') (e ∙ ap (λ (k : ℕ). begin close k hs k ts) q)
 
--- tables that were left as they were
-pub same_store : (text : List ℕ) {cells cells' : List Cell} {frames frames' : List Frame} → (cells' ≡ cells) × (frames' ≡ frames) →
-    stored text cells' frames' ≡ stored text cells frames
-same_store text {cells} {cells'} {frames} {frames'} e =
-    ap (λ (x : List Cell). stored text x frames') e.0 ∙ ap (λ (x : List Frame). stored text cells x) e.1
+-- the tables as they were
+pub same_store : {text text' : List ℕ} {cells cells' : List Cell} {frames frames' : List Frame} → text' ≡ text → cells' ≡ cells →
+    frames' ≡ frames → stored text' cells' frames' ≡ stored text cells frames
+same_store {text} {text'} {cells} {cells'} {frames} {frames'} t p q =
+    ap (λ (x : List ℕ). stored x cells' frames') t ∙
+    (ap (λ (x : List Cell). stored text x frames') p ∙ ap (λ (x : List Frame). stored text cells x) q)
+
+-- a stop that is passed on
+pub stopped-as : (m : Machine) (r : Result (Maybe Value) Reason) (k : Reason) → IsErrAnd r (λ e. e ≡ k) → outcome_of m r ≡ stop (reason_of k)
+stopped-as m (Ok None) k h = absurd h
+stopped-as m (Ok (Some v)) k h = absurd h
+stopped-as m (Err e) k h = ap (λ x. stop (reason_of x)) h
+
+-- what an action comes to on a machine
+abbrev pub acted : Pantry → Machine → Action → Outcome
+acted p m a = perform (program_of p m) (store_of m) (state_of m) (action_of (text_of m) (m.registers.frames - 1) a)
+
+-- what an arm does is what its action asks
+pub as-asked : (p : Pantry) (m : Machine) {a b : Action} {o : Outcome} → a ≡ b → o ≡ acted p m b → o ≡ acted p m a
+as-asked p m e h = h ∙ ap (acted p m) (sym e)

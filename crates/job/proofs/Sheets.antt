@@ -15,7 +15,7 @@ use Rattle.grammar.proofs.Laid.{length-nodes_s}
 use Rattle.grammar.proofs.Exactly.{exactly}
 use Rattle.grammar.proofs.Plans.{read-holds}
 use Rattle.checker.specs.Passes.{sheet_read, sheet_in}
-use Rattle.job.specs.Begins.{ending, ends_from}
+use Rattle.job.specs.Endings.{ending, ends_from}
 
 -- how many bodies end: one for each module
 body-ending : {t : List tree.Node} {rest ts : List tree.Task} {ds : List language.Definition} → BodyStands t rest ds ts → ending ts ≡

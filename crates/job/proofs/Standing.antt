@@ -1,5 +1,5 @@
 -- From the tables that count to the store that was lent.
-use Rattle.std.proofs.Common.{◌≡◌, ℕ, ◌+◌, min, List, map, length, take, replicate, sym, refl, ap, ◌∙◌, subst, arith, length-take}
+use Rattle.std.proofs.Common.{◌≡◌, ℕ, ◌+◌, min, List, map, length, take, replicate, sym, ap, ◌∙◌, arith, length-take, drop, ◌++◌}
 use lib.ListN.{length-map}
 use lib.LanesLaws.{map-replicate}
 use Rattle.std.proofs.lemmas.List.{take-map}
@@ -7,20 +7,22 @@ use Rattle.language.specs.Tree.{Plan}
 use Rattle.language.specs.Pantry.{Pantry}
 use Rattle.language.specs.Machine as machine
 use Rattle.language.specs.Job as language
-use Rattle.language.proofs.Advances.{advances-add, ended-stays}
+use Rattle.language.proofs.Advances.{advances-add}
 use Rattle.grammar.specs.Plan.{plan_of}
-use Rattle.grammar.specs.declared.tree.Node.{Node}
+use Rattle.grammar.specs.declared.sheet.ReadSheet.{ReadSheet}
 use Rattle.job.specs.declared.tables.Cell.{Cell}
 use Rattle.job.specs.declared.tables.Cell.TheVariants as cell
 use Rattle.job.specs.declared.tables.Frame.{Frame}
 use Rattle.job.specs.declared.tables.Frame.TheVariants as frame
 use Rattle.job.specs.declared.answers.Status.{Status}
-use Rattle.job.specs.declared.answers.Status.TheVariants.{Running, Finished, Stopped}
+use Rattle.job.specs.declared.answers.Status.TheVariants.{Running}
 use Rattle.job.specs.declared.answers.Progress.{Progress}
-use Rattle.job.specs.declared.registers.ModuleScope.{ModuleScope}
+use Rattle.job.specs.declared.course.Course.{Course}
 use Rattle.job.specs.declared.registers.Registers.{Registers}
 use Rattle.job.specs.Maps.{cell_of, frame_of, stored, registers_of, status_of}
-use Rattle.job.specs.Advances.{AdvancesIn, within}
+use Rattle.job.specs.Rules.{program_in}
+use Rattle.job.specs.Advances.{Advances, within}
+use Rattle.job.proofs.Within.{lent, back, carried}
 
 abbrev lent_as : List ℕ → List Cell → List Frame → machine.Store
 lent_as text cells frames = machine.store_of (map (cell_of text) cells) (map frame_of frames)
@@ -50,42 +52,37 @@ blanked-is text cells cells' frames frames' p q =
     ap (store (language.blanked (lent_as text cells frames)).cells) (blank-places frame_of frames frames' frame.Blank q)
 
 -- an advance on the places that count is one on the store that was lent
-pub advanced-is : (text : List ℕ) (nodes : List Node) (close : ℕ) (m : Pantry) (scopes scopes' : List ModuleScope)
-    (cells cells' : List Cell)
-    (frames frames' : List Frame) (g : Registers) (x : Status) (n a : ℕ) (r : Progress) → x ≡ Running g →
-    AdvancesIn text nodes close m scopes scopes' (within cells) (within cells') (within frames) (within frames') g n a r →
-    language.moment (lent_as text cells' frames') (status_of text nodes scopes' r.status) r.steps ≡
-    language.after (plan_of text nodes close) m a (language.moment (lent_as text cells frames) (status_of text nodes scopes x) n)
-advanced-is text nodes close m scopes scopes' cells cells' frames frames' g x n a r q h =
-    let w = machine.program_of (plan_of text nodes close) m in
-    ap (λ (s : machine.Store). language.moment s (status_of text nodes scopes' r.status) r.steps) (lent_is text cells' frames') ∙
+advanced : (s : ReadSheet) (c c' : Course) (m : Pantry) (cells cells' : List Cell) (frames frames' : List Frame)
+    (g : Registers) (x : Status) (n a : ℕ) (r : Progress) → x ≡ Running g →
+    Advances m s (record { course = c; cells = within cells; frames = within frames })
+    (record { course = c'; cells = within cells'; frames = within frames' }) g n a r →
+    language.moment (lent_as s.text.now cells' frames') (status_of s.text.now c' r.status) r.steps ≡
+    language.after (plan_of s.text.now s.tree.now s.close) m a
+    (language.moment (lent_as s.text.now cells frames) (status_of s.text.now c x) n)
+advanced s c c' m cells cells' frames frames' g x n a r q h =
+    let w = program_in s m in
+    ap (λ (y : machine.Store). language.moment y (status_of s.text.now c' r.status) r.steps) (lent_is s.text.now cells' frames') ∙
     (h ∙
-    (ap (λ (s : machine.Store). language.stepping w a s (language.running (registers_of text nodes scopes g)) n)
-    (sym (lent_is text cells frames)) ∙
-    ap (λ (y : Status). language.stepping w a (lent_as text cells frames) (status_of text nodes scopes y) n) (sym q)))
+    (ap (λ (y : machine.Store). language.stepping w a y (language.running (registers_of s.text.now c g)) n)
+    (sym (lent_is s.text.now cells frames)) ∙
+    ap (λ (y : Status). language.stepping w a (lent_as s.text.now cells frames) (status_of s.text.now c y) n) (sym q)))
 
--- an ended job stays as it is
-pub ended_is : (w : machine.Program) (s : machine.Store) (text : List ℕ) (nodes : List Node) (scopes : List ModuleScope) (x : Status)
-    (n a : ℕ) →
-    ((g : Registers) → x ≡ Running g → ⊥) →
-    language.moment s (status_of text nodes scopes x) n ≡ language.stepping w a s (status_of text nodes scopes x) n
-ended_is w s text nodes scopes (Running g) n a h = absurd (h g refl)
-ended_is w s text nodes scopes (Finished v) n a h = sym (ended-stays w a s _ tt)
-ended_is w s text nodes scopes (Stopped k) n a h = sym (ended-stays w a s _ tt)
+-- the same, where these places were lent and came back
+pub advanced-is : (s : ReadSheet) (c c' : Course) (m : Pantry) (cells cells' : List Cell) (frames frames' : List Frame) (i j : ℕ)
+    (g : Registers) (x : Status) (n a : ℕ) (r : Progress) → i ≡ min 65535 (length cells) → j ≡ min 65535 (length frames) →
+    length cells' ≡ i → length frames' ≡ j → x ≡ Running g →
+    Advances m s (record { course = c; cells = take i cells; frames = take j frames })
+    (record { course = c'; cells = cells'; frames = frames' }) g n a r →
+    language.moment (lent_as s.text.now (cells' ++ drop i cells) (frames' ++ drop j frames)) (status_of s.text.now c' r.status) r.steps ≡
+    language.after (plan_of s.text.now s.tree.now s.close) m a
+    (language.moment (lent_as s.text.now cells frames) (status_of s.text.now c x) n)
+advanced-is s c c' m cells cells' frames frames' i j g x n a r e f k l q h =
+    let R : List Cell → List Cell → List Frame → List Frame → Type 0 = λ y y' z z'.
+    Advances m s (record { course = c; cells = y; frames = z }) (record { course = c'; cells = y'; frames = z' }) g n a r in
+    advanced s c c' m cells (cells' ++ drop i cells) frames (frames' ++ drop j frames) g x n a r q
+    (carried R (lent cells i e) (sym (back cells cells' i e k)) (lent frames j f) (sym (back frames frames' j f l)) h)
 
 -- an advance and then another
 pub adds : (plan : Plan) (p : Pantry) (a b : ℕ) (m n : language.Moment) → n ≡ language.after plan p a m →
     language.after plan p (a + b) m ≡ language.after plan p b n
 adds plan p a b m n e = advances-add (machine.program_of plan p) a b m.store m.job ∙ ap (language.after plan p b) (sym e)
-
--- the same text and tree advance the same
-pub advanced-on : {text text' : List ℕ} {nodes nodes' : List Node} {close close' : ℕ} → text ≡ text' → nodes ≡ nodes' → close ≡ close' →
-    (m : Pantry)
-    (scopes scopes' : List ModuleScope) (cells cells' : List Cell) (frames frames' : List Frame) (g : Registers) (n a : ℕ) (r : Progress) →
-    AdvancesIn text nodes close m scopes scopes' cells cells' frames frames' g n a r →
-    AdvancesIn text' nodes' close' m scopes scopes' cells cells' frames frames' g n a r
-advanced-on {text} {text'} {nodes} {nodes'} {close} {close'} p q e m scopes scopes' cells cells' frames frames' g n a r h =
-    let P : List ℕ → Type 0 = λ x. AdvancesIn x nodes close m scopes scopes' cells cells' frames frames' g n a r in
-    let Q : List Node → Type 0 = λ x. AdvancesIn text' x close m scopes scopes' cells cells' frames frames' g n a r in
-    let R : ℕ → Type 0 = λ x. AdvancesIn text' nodes' x m scopes scopes' cells cells' frames frames' g n a r in
-    subst R e (subst Q q (subst P p h))

@@ -1,12 +1,12 @@
 -- From one step to an advance.
-use Rattle.std.proofs.Common.{◌≡◌, ℕ, zero, suc, ◌+◌, ◌-◌, ◌<◌, ◌≤◌, Bool, cond, sym, refl, ap, ◌∙◌, add-one, arith, le-ltb, lt-ltb}
+use Rattle.std.proofs.Common.{◌≡◌, ℕ, zero, suc, ◌+◌, ◌-◌, ◌<◌, ◌≤◌, Bool, cond, sym, refl, ap, ◌∙◌, add-one, arith, le-ltb, lt-ltb, ◌⊎◌, inl, inr}
 use Rattle.language.specs.Machine.{Program, Store, Registers, Value, Reason, Outcome, next, done, stop}
 use Rattle.language.specs.Step.{step}
 use Rattle.language.specs.Job.{moment, running, finished, stopped, step_limit, counting, stepping}
 
 module _ (w : Program) (s : Store) (r : Registers) (a n : ℕ) where
   -- no step is left
-  pub advance-none : a ≡ 0 → stepping w a s (running r) n ≡ moment s (running r) n
+  advance-none : a ≡ 0 → stepping w a s (running r) n ≡ moment s (running r) n
   advance-none e = ap (λ (k : ℕ). stepping w k s (running r) n) e
 
   one-step : (b : ℕ) (o : Outcome) → a ≡ suc b → n < step_limit → o ≡ step w s r → stepping w a s (running r) n ≡
@@ -33,8 +33,14 @@ module _ (w : Program) (s : Store) (r : Registers) (a n : ℕ) where
       ap (λ (x : Store). moment x (stopped k) n) e ∙ sym (one-step (a - 1) (stop k) (omega arith) l q)
 
 -- no step is made past the limit
-pub advance-full : (w : Program) (s : Store) (r : Registers) (a n : ℕ) → step_limit ≤ n → stepping w a s (running r) n ≡
+advance-full : (w : Program) (s : Store) (r : Registers) (a n : ℕ) → step_limit ≤ n → stepping w a s (running r) n ≡
     moment s (running r) n
 advance-full w s r zero n h = refl
 advance-full w s r (suc a) n h =
     ap (λ (b : Bool). cond b (counting (stepping w a) s n (step w s r)) (moment s (running r) n)) (le-ltb _ _ h)
+
+-- no step is made where none is left, nor past the limit
+pub advance-end : (w : Program) (s : Store) (r : Registers) (a n : ℕ) → (step_limit ≤ n) ⊎ (a ≡ 0) → stepping w a s (running r) n ≡
+    moment s (running r) n
+advance-end w s r a n (inl h) = advance-full w s r a n h
+advance-end w s r a n (inr e) = advance-none w s r a n e

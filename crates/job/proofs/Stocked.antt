@@ -1,8 +1,9 @@
 -- The pantry's entries by their numbers and by their names.
 use Rattle.std.proofs.Common.{◌≡◌, ℕ, zero, suc, ◌+◌, ◌<◌, ◌≤◌, Bool, true, false, cond, [], ◌∷◌, length, drop, ℤ, sym, refl, ap, ◌∙◌, add-one, arith}
 use mathlib.Core.Option.{Option, none, some}
+use Rattle.std.specs.Prelude.{Some, Ok, Err, Result}
+use Rattle.std.specs.Result.{OkIff, result_ok}
 use lib.ListN.{get_elem?}
-use Rattle.std.proofs.lemmas.List.{drop_all}
 use Rattle.words.specs.Names.{Name, same_name}
 use Rattle.language.specs.Names.{bind, lookup}
 use Rattle.language.specs.Pantry.{Pantry, Kind, stock_of}
@@ -30,9 +31,6 @@ module _ (p : Pantry) (x : Name) (i : ℕ) where
 
   pub no-entry : none ≡ get_elem? (stock_of p) i → from i ≡ none
   no-entry h = no-entry-from p i i x (sym h)
-
-  pub no_more : length p ≤ i → from i ≡ none
-  no_more l = ap (λ (q : Pantry). lookup (numbered_from i q) x) (drop_all i p l)
 
   pub named_here : (y : Name) (q : Kind) → some (bind y q) ≡ get_elem? (stock_of p) i → same_name y x ≡ true → from i ≡ some (numbered i q)
   named_here y q h t =
@@ -64,3 +62,8 @@ pub asking-some : (m : Pantry) (w : Program) (d i : ℕ) (z y : ℤ) (v : Value)
     some (hands (removed d) (fetched i y)) ≡ asking (stocked m w) d i v
 asking-some m w d i z y v q e l =
     ap (λ (n : ℤ). some (hands (removed d) (fetched i n))) e ∙ (some-there m i i d z l ∙ ap (asking (stocked m w) d i) (sym q))
+
+-- a number that was converted
+pub converted : {E : Type 0} → (r : Result ℕ E) (P : Type 0) (i n : ℕ) → OkIff r P i → Some n ≡ result_ok r → n ≡ i
+converted (Ok x) P i n h e = let v : x ≡ i = h.1 in cc
+converted (Err k) P i n h e = absurd (cc)

@@ -1,38 +1,29 @@
 -- An advance over tables, as the machine's.
-use Rattle.std.specs.Prelude.{◌≡◌, ℕ, ◌+◌, List, take, drop}
+use Rattle.std.specs.Prelude.{◌≡◌, ℕ, List, take, drop}
 use Rattle.language.specs.Scopes.{table_limit}
 use Rattle.language.specs.Pantry.{Pantry}
 use Rattle.language.specs.Job as language
-use Rattle.grammar.specs.declared.tree.Node.{Node}
-use Rattle.job.specs.declared.programs.Program.{Program}
-use Rattle.job.specs.declared.registers.ModuleScope.{ModuleScope}
+use Rattle.grammar.specs.declared.sheet.ReadSheet.{ReadSheet}
+use Rattle.job.specs.declared.course.Course.{Course}
 use Rattle.job.specs.declared.registers.Registers.{Registers}
 use Rattle.job.specs.declared.tables.Cell.{Cell}
 use Rattle.job.specs.declared.tables.Frame.{Frame}
-use Rattle.job.specs.declared.answers.Status.{Status}
-use Rattle.job.specs.declared.answers.Status.TheVariants.{Running, Finished, Stopped}
 use Rattle.job.specs.declared.answers.Progress.{Progress}
 use Rattle.job.specs.Maps.{stored, registers_of, status_of}
 use Rattle.job.specs.Rules.{program_in}
-use Rattle.job.specs.Begins.{ends_from}
 
--- how many module scopes there will be when all bodies have ended
-abbrev pub room_of : List Node → Status → ℕ
-room_of nodes (Running r) = r.ended + ends_from nodes r.next
-room_of nodes (Finished v) = 0
-room_of nodes (Stopped k) = 0
+-- a job's course, and the two tables
+pub record State : Type 0 where
+  pub course : Course
+  pub cells : List Cell
+  pub frames : List Frame
 
--- from the registers g and n steps, an advance by the allowance a comes to the progress r
-abbrev pub AdvancesIn : List ℕ → List Node → ℕ → Pantry → List ModuleScope → List ModuleScope → List Cell → List Cell →
-    List Frame → List Frame → Registers → ℕ → ℕ → Progress → Type 0
-AdvancesIn text nodes close m scopes scopes' cells cells' frames frames' g n a r =
-    language.moment (stored text cells' frames') (status_of text nodes scopes' r.status) r.steps ≡
-    language.stepping (program_in text nodes close m) a (stored text cells frames) (language.running (registers_of text nodes scopes g)) n
-
--- the same with the code's program
-abbrev pub Advances : Program → Pantry → List ModuleScope → List ModuleScope → List Cell → List Cell → List Frame → List Frame →
-    Registers → ℕ → ℕ → Progress → Type 0
-Advances p m = AdvancesIn p.text.now p.tree.now p.close m
+-- on this sheet, from the registers g and n steps, an advance by the allowance a comes to the progress r
+abbrev pub Advances : Pantry → ReadSheet → State → State → Registers → ℕ → ℕ → Progress → Type 0
+Advances p sheet s t g n a r =
+    language.moment (stored sheet.text.now t.cells t.frames) (status_of sheet.text.now t.course r.status) r.steps ≡
+    language.stepping (program_in sheet p) a (stored sheet.text.now s.cells s.frames)
+    (language.running (registers_of sheet.text.now s.course g)) n
 
 -- the places of a table that count
 abbrev pub within : {X : Type 0} → List X → List X

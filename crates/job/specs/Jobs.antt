@@ -7,7 +7,6 @@ use Rattle.grammar.specs.Plan.{plan_of}
 use Rattle.checker.specs.declared.passes.Pass.{Pass}
 use Rattle.job.specs.declared.tables.Cell.{Cell}
 use Rattle.job.specs.declared.tables.Frame.{Frame}
-use Rattle.job.specs.declared.programs.Program.{Program}
 use Rattle.job.specs.declared.jobs.Job.{Job}
 use Rattle.job.specs.Maps.{cell_of, frame_of, status_of}
 
@@ -22,7 +21,7 @@ store_for p cells frames = store_of (map (cell_of p.sheet.text.now) cells) (map 
 -- the job as the machine has it
 abbrev pub job_of : Job → language.Job
 job_of j = record {
-  status = status_of j.pass.sheet.text.now j.pass.sheet.tree.now j.scopes j.progress.status;
+  status = status_of j.pass.sheet.text.now j.course j.progress.status;
   steps =
       j.progress.steps;
 }
@@ -40,9 +39,3 @@ pub record SamePass (p q : Pass) : Type 0 where
   pub text : p.sheet.text.now ≡ q.sheet.text.now
   pub tree : p.sheet.tree.now ≡ q.sheet.tree.now
   pub close : p.sheet.close ≡ q.sheet.close
-
--- a program has what the pass reads
-pub record Reads (w : Program) (p : Pass) : Type 0 where
-  pub text : w.text.now ≡ p.sheet.text.now
-  pub tree : w.tree.now ≡ p.sheet.tree.now
-  pub close : w.close ≡ p.sheet.close

@@ -1,7 +1,9 @@
 pub mod Maps
 pub mod Lookups
 pub mod Rules
+pub mod Endings
 pub mod Begins
+pub mod Machines
 pub mod Performs
 pub mod Advances
 pub mod Jobs

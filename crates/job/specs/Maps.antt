@@ -1,5 +1,5 @@
 -- What the declared records stand for. Names are parts of a text.
-use Rattle.std.specs.Prelude.{ℕ, List, map, take, drop, Some, None, Ok, Err, Option as Maybe, Result}
+use Rattle.std.specs.Prelude.{ℕ, List, map, drop, Some, None, Ok, Err, Option as Maybe, Result}
 use Rattle.std.proofs.Math.Option.{Option, none, some}
 use Rattle.language.specs.Names as names
 use Rattle.language.specs.Scopes.{Scope}
@@ -8,7 +8,6 @@ use Rattle.language.specs.Machine as machine
 use Rattle.language.specs.Job as language
 use Rattle.grammar.specs.Plain.{plain_o}
 use Rattle.grammar.specs.Plan.{tasks_of}
-use Rattle.grammar.specs.declared.tree.Node.{Node}
 use Rattle.job.specs.declared.tables.Value.{Value}
 use Rattle.job.specs.declared.tables.Value.TheVariants.{Integer, Boolean, Closure, PantryProcedure}
 use Rattle.job.specs.declared.tables.Cell.{Cell}
@@ -19,7 +18,8 @@ use Rattle.job.specs.declared.registers.Control.{Control}
 use Rattle.job.specs.declared.registers.Control.TheVariants.{Evaluate, Return}
 use Rattle.job.specs.declared.registers.Target.{Target}
 use Rattle.job.specs.declared.registers.Target.TheVariants.{Defining, Closing}
-use Rattle.job.specs.declared.registers.ModuleScope.{ModuleScope}
+use Rattle.job.specs.declared.course.ModuleScope.{ModuleScope}
+use Rattle.job.specs.declared.course.Course.{Course}
 use Rattle.job.specs.declared.registers.Registers.{Registers}
 use Rattle.job.specs.declared.reasons.Reason.{Reason}
 use Rattle.job.specs.declared.reasons.Reason.TheVariants.{NoCell, NoFrame, TooLarge, DivideByZero, NoAnswer, NoRule}
@@ -111,22 +111,22 @@ decided text d (Some a) = some (action_of text d a)
 abbrev pub stored : List ℕ → List Cell → List Frame → machine.Store
 stored text cells frames = record { cells = map (cell_of text) cells; frames = map frame_of frames }
 
--- the machine's registers; of the module scopes those of the bodies that have ended count
-abbrev pub registers_of : List ℕ → List Node → List ModuleScope → Registers → machine.Registers
-registers_of text nodes scopes r = record {
+-- the machine's registers, on a course through the sheet
+abbrev pub registers_of : List ℕ → Course → Registers → machine.Registers
+registers_of text c r = record {
   control = control_of r.control;
   target = target_of text r.target;
-  pending = tasks_of text (drop r.next nodes);
-  module_scopes = map (scope_of text) (take r.ended scopes);
+  pending = tasks_of text (drop c.next c.tree.now);
+  module_scopes = map (scope_of text) c.modules.items;
   cell_count = r.cells;
   frame_count = r.frames;
 }
 
 -- how a job stands
-abbrev pub status_of : List ℕ → List Node → List ModuleScope → Status → language.Status
-status_of text nodes scopes (Running r) = language.running (registers_of text nodes scopes r)
-status_of text nodes scopes (Finished v) = language.finished (value_of v)
-status_of text nodes scopes (Stopped k) = language.stopped (reason_of k)
+abbrev pub status_of : List ℕ → Course → Status → language.Status
+status_of text c (Running r) = language.running (registers_of text c r)
+status_of text c (Finished v) = language.finished (value_of v)
+status_of text c (Stopped k) = language.stopped (reason_of k)
 
 -- what an answer says
 abbrev pub answer_of : Answer → language.Answer

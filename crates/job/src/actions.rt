@@ -1,5 +1,3 @@
-use crate::reasons::Reason;
-use crate::registers::Registers;
 use crate::tables::{Cell, Frame, Value};
 use grammar::tree::Operator;
 use language::spans::Span;
@@ -58,12 +56,4 @@ pub enum Action {
         scope: u16,
     },
     Ends(Value),
-}
-
-// What a step comes to.
-#[derive(Clone, Copy)]
-pub enum Outcome {
-    Next(Registers),
-    Done(Value),
-    Stop(Reason),
 }

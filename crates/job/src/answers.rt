@@ -1,3 +1,6 @@
+ghost use Rattle.std.specs.Prelude.{◌≤◌};
+ghost use Rattle.language.specs.Job.{step_limit};
+
 use crate::reasons::Reason;
 use crate::registers::Registers;
 use crate::tables::Value;
@@ -23,4 +26,5 @@ pub enum Answer {
 pub struct Progress {
     pub status: Status,
     pub steps: u32,
+    ghost counted: { steps ≤ step_limit },
 }

@@ -1,76 +1,35 @@
-ghost use Rattle.std.specs.Prelude.{◌≡◌, ◌+◌, ◌<◌, false, ◌+ℤ◌, ◌-ℤ◌, ◌*ℤ◌};
-ghost use Rattle.language.specs.Machine.{quotient as quotient_of, is_zeroℤ, is_negative, sized as sized_of, compute};
+ghost use Rattle.std.specs.Prelude.{◌≡◌};
+ghost use Rattle.language.specs.Machine.{sized as sized_of, compute};
 ghost use Rattle.grammar.specs.Plain.{plain_o};
 ghost use Rattle.job.specs.Maps.{tried_of};
 
 use crate::reasons::Reason;
 use crate::tables::Value;
 use grammar::tree::Operator;
-
-const LARGEST: i64 = 2_000_000_000;
-
-fn sum(a: i32, b: i32) -> i64
-    ensures { result ≡ a +ℤ b }
-{
-    i64::from(a) + i64::from(b)
-}
-
-fn difference(a: i32, b: i32) -> i64
-    ensures { result ≡ a -ℤ b }
-{
-    i64::from(a) - i64::from(b)
-}
-
-fn product(a: i32, b: i32) -> i64
-    ensures { result ≡ a *ℤ b }
-{
-    i64::from(a) * i64::from(b)
-}
-
-pub(crate) fn is_zero(a: i32) -> bool
-    ensures { result ≡ is_zeroℤ a }
-{
-    a == 0
-}
-
-fn is_less(a: i32, b: i32) -> bool
-    ensures { result ≡ is_negative (a -ℤ b) }
-{
-    a < b
-}
-
-// The quotient without its fraction.
-fn quotient(a: i32, b: i32) -> i64
-    requires { is_zeroℤ b ≡ false }
-    ensures { result ≡ quotient_of a b }
-{
-    i64::from(a) / i64::from(b)
-}
+use pantry::entries::in_range;
 
 // A result, if it is not too large.
 fn sized(z: i64) -> Result<Value, Reason>
     ensures { tried_of result ≡ sized_of z }
 {
-    if z < -LARGEST || z > LARGEST {
-        return Err(Reason::TooLarge);
+    match i32::try_from(z) {
+        Ok(figure) if in_range(figure) => Ok(Value::Integer(figure)),
+        _ => Err(Reason::TooLarge),
     }
-    Ok(Value::Integer(z as i32))
 }
 
-// What an operation on two numbers gives.
-pub(crate) fn computed(operator: Operator, a: i32, b: i32) -> Result<Value, Reason>
-    ensures { tried_of result ≡ compute (plain_o operator) a b }
+// What an operation on two numbers gives. A quotient drops its fraction.
+pub(crate) fn computed(operator: Operator, left: i32, right: i32) -> Result<Value, Reason>
+    ensures { tried_of result ≡ compute (plain_o operator) left right }
 {
+    let a = i64::from(left);
+    let b = i64::from(right);
     match operator {
-        Operator::Plus => sized(sum(a, b)),
-        Operator::Minus => sized(difference(a, b)),
-        Operator::Times => sized(product(a, b)),
-        Operator::Over => {
-            if is_zero(b) {
-                return Err(Reason::DivideByZero);
-            }
-            sized(quotient(a, b))
-        }
-        Operator::Less => Ok(Value::Boolean(is_less(a, b))),
+        Operator::Plus => sized(a + b),
+        Operator::Minus => sized(a - b),
+        Operator::Times => sized(a * b),
+        Operator::Over if b == 0 => Err(Reason::DivideByZero),
+        Operator::Over => sized(a / b),
+        Operator::Less => Ok(Value::Boolean(a < b)),
     }
 }

@@ -1,10 +1,13 @@
-ghost use Rattle.std.specs.Prelude.{◌≡◌, ℕ, ◌+◌, ◌<◌, ◌≤◌, List, length};
+ghost use Rattle.std.specs.Prelude.{◌≡◌, ℕ, [], List};
 ghost use Rattle.language.specs.Tree as tree;
 ghost use Rattle.grammar.specs.Plan.{with_task};
-ghost use Rattle.job.specs.Begins.{before, Begun, Room, ends_from};
+ghost use Rattle.job.specs.Begins.{before, remaining, Takes};
+ghost use Rattle.job.specs.Maps.{registers_of};
 
-use crate::programs::Program;
-use crate::registers::{Control, ModuleScope, Registers, Target};
+use crate::course::{Course, ModuleScope};
+use crate::registers::{Control, Registers, Target};
+use arrayvec::ArrayVec;
+use grammar::sheet::ReadSheet;
 use grammar::tree::{Item, Node};
 use language::spans::Span;
 
@@ -13,72 +16,78 @@ use language::spans::Span;
 pub(crate) enum Task {
     Define { name: Span, part: u16 },
     EndModule { name: Span },
-    Nothing,
 }
 
-fn task_of(node: Node) -> Task
+fn task_of(node: Node) -> Option<Task>
     ensures { (text : List ℕ) (ts : List tree.Task) → with_task text node ts ≡ before text result ts }
 {
     let Node::Item(item) = node else {
-        return Task::Nothing;
+        return None;
     };
     match item {
-        Item::ValueIs { name, is } => Task::Define { name, part: is },
-        Item::Module { name, .. } => Task::EndModule { name },
-        _ => Task::Nothing,
+        Item::ValueIs { name, is } => Some(Task::Define { name, part: is }),
+        Item::Module { name, .. } => Some(Task::EndModule { name }),
+        _ => None,
     }
 }
 
-// With so many cells in use, turns to the next definition, in the scope of its body; past the last one, to the closing expression.
-pub(crate) fn begin(
-    program: Program<'_, '_>,
-    scopes: &mut [ModuleScope],
-    from: u16,
-    bodies: u8,
-    cells: u16,
-    start: u16,
-) -> Registers
-    requires table { length scopes.old ≡ 32 }
-    requires room { bodies + ends_from program.tree.now from ≤ 32 }
-    ensures is { Begun program.entry scopes.old scopes.new from bodies cells start result }
-    ensures size { length scopes.new ≡ 32 }
-    ensures room { Room program.entry.tree.now result }
-{
-    let tree = program.tree;
-    let mut scope = start;
-    let mut next = from;
-    let mut ended = bodies;
-    while usize::from(next) < tree.len() {
-        let found = task_of(tree[usize::from(next)]);
-        next += 1;
-        match found {
-            Task::Define { name, part } => {
-                return Registers {
-                    control: Control::Evaluate { part, scope },
-                    target: Target::Defining { name, scope },
-                    next,
-                    ended,
-                    cells,
-                    frames: 0,
-                };
-            }
-            Task::EndModule { name } => {
-                scopes[usize::from(ended)] = ModuleScope { name, scope };
-                ended += 1;
-                scope = 0;
-            }
-            Task::Nothing => {}
+impl<'r> Course<'r> {
+    // Nothing of the sheet has begun.
+    pub(crate) fn new(sheet: ReadSheet<'_, 'r>) -> Course<'r>
+        ensures tree { result.tree ≡ sheet.entry.tree }
+        ensures next { result.next ≡ 0 }
+        ensures modules { result.modules.items ≡ [] }
+    {
+        Course {
+            tree: sheet.tree,
+            next: 0,
+            modules: ArrayVec::new(),
         }
     }
-    Registers {
-        control: Control::Evaluate {
-            part: program.close,
-            scope: 0,
-        },
-        target: Target::Closing,
-        next,
-        ended,
-        cells,
-        frames: 0,
+
+    // The next task, if one is left.
+    fn next_task(&mut self) -> Option<Task>
+        ensures { Takes self.old self.new result }
+    {
+        while let Some(node) = self.tree.get(usize::from(self.next)).copied() {
+            self.next += 1;
+            if let Some(task) = task_of(node) {
+                return Some(task);
+            }
+        }
+        None
+    }
+
+    // With so many cells in use, turns to the next definition, in the scope of its body; past the last one, to the closing expression.
+    pub(crate) fn begin(&mut self, close: u16, cells: u16) -> Registers
+        ensures is { (text : List ℕ) → registers_of text self.new result ≡ remaining text close cells self.old cells }
+        ensures tree { self.new.tree ≡ self.old.tree }
+    {
+        let mut scope = cells;
+        while let Some(task) = self.next_task() {
+            match task {
+                Task::Define { name, part } => {
+                    return Registers {
+                        control: Control::Evaluate { part, scope },
+                        target: Target::Defining { name, scope },
+                        cells,
+                        frames: 0,
+                    };
+                }
+                Task::EndModule { name } => {
+                    self.modules.push(ModuleScope { name, scope });
+                    scope = 0;
+                }
+            }
+        }
+        Registers {
+            control: Control::Evaluate {
+                part: close,
+                scope: 0,
+            },
+            target: Target::Closing,
+            cells,
+            frames: 0,
+        }
     }
 }

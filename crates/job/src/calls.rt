@@ -1,72 +1,42 @@
 ghost use Rattle.std.specs.Prelude.{◌≡◌, ℕ, ◌+◌, ◌<◌, min, List, length, replicate};
 ghost use Rattle.language.specs.Job.{blanked, opened, after, answer_of as answer_for};
-ghost use Rattle.grammar.specs.declared.tree.Node.{Node as Tree};
-ghost use Rattle.job.specs.declared.registers.ModuleScope.{ModuleScope as Scopes};
+ghost use Rattle.job.specs.declared.course.Course.{Course as Way};
 ghost use Rattle.checker.specs.declared.passes.Pass.{Pass as Passed};
 ghost use Rattle.job.specs.Maps.{status_of, answer_of};
 ghost use Rattle.job.specs.Advances.{within, behind, Behind};
 ghost use Rattle.job.specs.Safety.{SafeRuns};
-ghost use Rattle.job.specs.Jobs.{plan_for, store_for, started, job_of, moment_of, SamePass, Reads};
+ghost use Rattle.job.specs.Jobs.{plan_for, store_for, started, job_of, moment_of, SamePass};
 
 use crate::answers::{Answer, Progress, Status};
-use crate::begin::begin;
+use crate::course::Course;
 use crate::jobs::Job;
-use crate::programs::Program;
-use crate::registers::ModuleScope;
-use crate::steps::{limited, stepping_within};
+use crate::steps::{limited, stepping_on};
 use crate::tables::{Cell, Frame};
 use checker::passes::Pass;
 use pantry::pantries::Pantry;
 
-fn fill<T: Copy>(table: &mut [T], empty: T)
-    ensures { table.new ≡ replicate (length table.old) empty }
-{
-    for x in table.iter_mut() {
-        *x = empty;
-    }
-}
-
-// Blanks the places that count.
-fn blank<T: Copy>(table: &mut [T], empty: T)
-    ensures is { within table.new ≡ replicate (min 65535 (length table.old)) empty }
-    ensures behind { behind table.new ≡ behind table.old }
-{
-    let n = limited(table.len());
-    fill(&mut table[0..n], empty);
-}
-
-// Blanks both tables.
+// Blanks the places of both tables that count.
 fn blank_tables(cells: &mut [Cell], frames: &mut [Frame])
     ensures is { (p : Passed) → store_for p cells.new frames.new ≡
         blanked (store_for p cells.old frames.old) }
     ensures behind { Behind cells.old cells.new frames.old frames.new }
 {
-    blank(cells, Cell::BLANK);
-    blank(frames, Frame::BLANK);
+    let c = limited(cells.len());
+    cells[..c].fill(Cell::Blank);
+    let f = limited(frames.len());
+    frames[..f].fill(Frame::Blank);
 }
 
 // What the answer says of how a job stands.
 fn said(progress: Progress) -> Answer
-    ensures { (text : List ℕ) (nodes : List Tree) (scopes : List Scopes) → answer_of result ≡
-        answer_for (record { status = status_of text nodes scopes progress.status; steps = progress.steps }) }
+    ensures { (text : List ℕ) (way : Way) → answer_of result ≡
+        answer_for (record { status = status_of text way progress.status; steps = progress.steps }) }
 {
     let steps = progress.steps;
     match progress.status {
         Status::Running(_) => Answer::Going { steps },
         Status::Finished(value) => Answer::Done { value, steps },
         Status::Stopped(reason) => Answer::Stop { reason, steps },
-    }
-}
-
-// What a job of the pass reads.
-fn program_of<'t, 'r>(pass: Pass<'t, 'r, '_, '_, '_>) -> Program<'t, 'r>
-    ensures { Reads result pass.entry }
-{
-    let sheet = pass.sheet;
-    Program {
-        text: sheet.text,
-        tree: sheet.tree,
-        close: sheet.close,
     }
 }
 
@@ -78,11 +48,11 @@ impl<'t, 'r, 'y, 'e, 'n> Job<'t, 'r, 'y, 'e, 'n> {
         ensures pass { SamePass result.pass pass.entry }
         ensures safe { SafeRuns pass.entry }
     {
-        let mut scopes = [ModuleScope::BLANK; 32];
-        let registers = begin(program_of(pass), &mut scopes, 0, 0, 0, 0);
+        let mut course = Course::new(pass.sheet);
+        let registers = course.begin(pass.sheet.close, 0);
         Job {
             pass,
-            scopes,
+            course,
             progress: Progress {
                 status: Status::Running(registers),
                 steps: 0,
@@ -133,21 +103,18 @@ impl<'t, 'r, 'y, 'e, 'n> Job<'t, 'r, 'y, 'e, 'n> {
         let Status::Running(registers) = self.progress.status else {
             return;
         };
-        let pass = self.pass;
-        let steps = self.progress.steps;
-        let mut scopes = self.scopes;
-        let after = stepping_within(
-            program_of(pass),
-            &mut scopes,
-            cells,
-            frames,
+        let c = limited(cells.len());
+        let f = limited(frames.len());
+        self.progress = stepping_on(
+            self.pass.sheet,
+            &mut self.course,
+            &mut cells[..c],
+            &mut frames[..f],
             registers,
-            steps,
+            self.progress.steps,
             pantry,
             allowance,
         );
-        self.scopes = scopes;
-        self.progress = after;
     }
 
     // Goes on for at most so many steps, on these tables as they stand.
@@ -179,7 +146,7 @@ impl<'t, 'r, 'y, 'e, 'n> Job<'t, 'r, 'y, 'e, 'n> {
     {
         let Job {
             pass: _,
-            scopes: _,
+            course: _,
             progress,
         } = self;
         said(progress)

@@ -33,11 +33,9 @@ pub(crate) fn from_entry<P: Pantry>(pantry: &P, name: &[u8]) -> Option<Action>
     ensures { Asks result (λ _ _. from_entry (entry_for (P.meaning pantry.now) name.now)) }
 {
     for i in 0..pantry.count() {
-        let Some(e) = pantry.entry(i) else {
-            return None;
-        };
-        if same_name(e.name, name) {
-            return Some(taken(i as u8, e.kind));
+        let entry = pantry.entry(i)?;
+        if same_name(entry.name, name) {
+            return Some(taken(u8::try_from(i).ok()?, entry.kind));
         }
     }
     None

@@ -1,16 +1,13 @@
-ghost use Rattle.std.specs.Prelude.{◌≡◌, ◌<◌, ◌≤◌, length};
-ghost use Rattle.job.specs.Advances.{room_of};
+ghost use Rattle.std.specs.Prelude.{◌≡◌};
 
 use crate::answers::Progress;
-use crate::registers::ModuleScope;
+use crate::course::Course;
 use checker::passes::Pass;
 
 // A job on a pass. It is spent by `finish` alone.
 pub struct Job<'t, 'r, 'y, 'e, 'n> {
     pub(crate) pass: Pass<'t, 'r, 'y, 'e, 'n>,
-    pub(crate) scopes: [ModuleScope; 32],
+    pub(crate) course: Course<'r>,
     pub(crate) progress: Progress,
-    ghost table: { length scopes ≡ 32 },
-    ghost room: { room_of pass.sheet.tree.now progress.status ≤ 32 },
-    ghost counted: { progress.steps ≤ 4000000000 },
+    ghost same_tree: { course.tree.now ≡ pass.sheet.tree.now },
 }

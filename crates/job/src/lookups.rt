@@ -4,7 +4,7 @@ ghost use Rattle.language.specs.Machine.{nearest as nearest_of};
 ghost use Rattle.job.specs.Maps.{value_of, cell_of, scope_of};
 ghost use Rattle.job.specs.Lookups.{held_cell, maybe, same};
 
-use crate::registers::ModuleScope;
+use crate::course::ModuleScope;
 use crate::tables::{Cell, Value};
 use language::bindings::{Binding, Holds, nearest};
 use language::spans::spelled;
@@ -42,10 +42,8 @@ pub(crate) fn value_of(text: &[u8], cells: &[Cell], scope: u16, name: &[u8]) -> 
 pub(crate) fn module_scope(text: &[u8], scopes: &[ModuleScope], name: &[u8]) -> Option<u16>
     ensures { maybe same result ≡ lookup (map (scope_of text.now) scopes.now) name.now }
 {
-    for m in scopes {
-        if same_name(spelled(text, m.name), name) {
-            return Some(m.scope);
-        }
-    }
-    None
+    let module = scopes
+        .iter()
+        .find(|m| same_name(spelled(text, m.name), name))?;
+    Some(module.scope)
 }

@@ -1,8 +1,7 @@
-ghost use Rattle.std.specs.Prelude.{◌≡◌, ◌+◌, ◌-◌, ◌<◌, ◌≤◌, List, length, nat_lt, slice_set};
+ghost use Rattle.std.specs.Prelude.{◌≡◌, ◌+◌, ◌-◌, ◌<◌, ◌≤◌, length, nat_lt, slice_set, if◌then◌else◌};
 ghost use Rattle.language.specs.Bindings.{spelled_in};
 ghost use Rattle.language.specs.Pantry.{fetch};
 ghost use Rattle.language.specs.Machine.{
-  Program as Reads,
   try,
   gives,
   replied,
@@ -16,15 +15,14 @@ ghost use Rattle.language.specs.Machine.{
   defines,
 };
 ghost use Rattle.job.specs.Maps.{value_of, cell_of, frame_of, frames_of, yield_of, tried_of, action_of};
-ghost use Rattle.job.specs.Begins.{Room};
-ghost use Rattle.job.specs.Performs.{Removes, Moves, MovesIf, Stays, StaysIf, Spared, Defines, RoomAfter, Performs};
+ghost use Rattle.job.specs.Machines.{text_of};
+ghost use Rattle.job.specs.Performs.{Removes, Moves, MovesIf, Performs, Same, SparedIf, Spared};
 
-use crate::actions::{Action, Frames, Outcome, Yield};
+use crate::actions::{Action, Frames, Yield};
 use crate::arithmetic::computed;
-use crate::begin::begin;
-use crate::programs::Program;
+use crate::machine::Machine;
 use crate::reasons::Reason;
-use crate::registers::{Control, ModuleScope, Registers};
+use crate::registers::Control;
 use crate::tables::{Cell, Frame, Value};
 use language::bindings::Binding;
 use language::spans::Span;
@@ -57,21 +55,19 @@ fn tried<P: Pantry>(pantry: &P, what: Yield) -> Result<Value, Reason>
     }
 }
 
-// Is there a free place?
-fn is_free(len: usize, used: u16) -> bool
-    ensures { result ≡ nat_lt used len }
+// The count with one more place in use, or why there is none.
+fn one_more(used: u16, len: usize, full: Reason) -> Result<u16, Reason>
+    requires { len ≤ 65535 }
+    ensures { result ≡ (if nat_lt used len then Ok (used + 1) else Err full) }
 {
-    usize::from(used) < len
+    if usize::from(used) < len {
+        Ok(used + 1)
+    } else {
+        Err(full)
+    }
 }
 
-// The place of the top frame.
-fn top(count: u16) -> u16
-    ensures { result ≡ count - 1 }
-{
-    if count == 0 { 0 } else { count - 1 }
-}
-
-// Writes a place, if there is such a one.
+// Writes a place, if there is such a one. Not by `get_mut`, which does not tell what a slice is after it.
 fn write<T: Copy>(table: &mut [T], place: u16, content: T)
     ensures { table.new ≡ slice_set table.old place content }
 {
@@ -89,216 +85,115 @@ fn removed(frames: &mut [Frame], which: Frames, count: u16) -> u16
     match which {
         Frames::Kept => count,
         Frames::Removed => {
-            let d = top(count);
-            write(frames, d, Frame::Blank);
-            d
+            let top = count.saturating_sub(1);
+            write(frames, top, Frame::Blank);
+            top
         }
     }
 }
 
-// Hands a value on.
-fn hand(frames: &mut [Frame], registers: Registers, which: Frames, value: Value) -> Registers
-    ensures is { (cells : List Cell) → Moves registers cells cells frames.old frames.new result
-        (λ text s g. handing s g (frames_of (registers.frames - 1) which) (gives (value_of value))) }
-    ensures stays { Stays registers result }
-{
-    let frames = removed(frames, which, registers.frames);
-    Registers {
-        control: Control::Return(value),
-        frames,
-        ..registers
+impl Machine<'_, '_, '_> {
+    // Hands a value on.
+    fn hand(&mut self, which: Frames, value: Value)
+        ensures is { Moves self.old self.new
+            (λ w s g. handing s g (frames_of (g.frame_count - 1) which) (gives (value_of value))) }
+        ensures same { Same self.old self.new }
+    {
+        self.registers.frames = removed(self.frames, which, self.registers.frames);
+        self.registers.control = Control::Return(value);
     }
-}
 
-// Turns to a branch.
-fn turn(frames: &mut [Frame], registers: Registers, to: u16, scope: u16) -> Registers
-    ensures is { (w : Reads) (cells : List Cell) → Moves registers cells cells frames.old frames.new result
-        (λ text s g. perform_of w s g (branches (registers.frames - 1) to scope)) }
-    ensures stays { Stays registers result }
-{
-    let frames = removed(frames, Frames::Removed, registers.frames);
-    Registers {
-        control: Control::Evaluate { part: to, scope },
-        frames,
-        ..registers
+    // Turns to a branch.
+    fn branch(&mut self, to: u16, scope: u16)
+        ensures is { Moves self.old self.new
+            (λ w s g. perform_of w s g (branches (g.frame_count - 1) to scope)) }
+        ensures same { Same self.old self.new }
+    {
+        self.registers.frames = removed(self.frames, Frames::Removed, self.registers.frames);
+        self.registers.control = Control::Evaluate { part: to, scope };
     }
-}
 
-// Replaces the content of the top frame and turns to a part.
-fn replace(
-    frames: &mut [Frame],
-    registers: Registers,
-    frame: Frame,
-    to: u16,
-    scope: u16,
-) -> Registers
-    ensures is { (w : Reads) (cells : List Cell) → Moves registers cells cells frames.old frames.new result
-        (λ text s g. perform_of w s g (replaces (registers.frames - 1) (frame_of frame) to scope)) }
-    ensures stays { Stays registers result }
-{
-    let d = top(registers.frames);
-    write(frames, d, frame);
-    Registers {
-        control: Control::Evaluate { part: to, scope },
-        frames: d + 1,
-        ..registers
+    // Replaces the content of the top frame and turns to a part.
+    fn replace(&mut self, frame: Frame, to: u16, scope: u16)
+        ensures is { Moves self.old self.new
+            (λ w s g. perform_of w s g (replaces (g.frame_count - 1) (frame_of frame) to scope)) }
+        ensures same { Same self.old self.new }
+    {
+        let top = self.registers.frames.saturating_sub(1);
+        write(self.frames, top, frame);
+        self.registers.frames = top + 1;
+        self.registers.control = Control::Evaluate { part: to, scope };
     }
-}
 
-// Puts a frame down and turns to a part.
-fn put_down(
-    frames: &mut [Frame],
-    registers: Registers,
-    frame: Frame,
-    to: u16,
-    scope: u16,
-) -> Outcome
-    requires { length frames.old ≤ 65535 }
-    ensures is { (w : Reads) (cells : List Cell) → MovesIf registers cells cells frames.old frames.new result
-        (λ text s g. perform_of w s g (puts_down (frame_of frame) to scope)) }
-    ensures stays { StaysIf registers result }
-    ensures spared { (cells : List Cell) → Spared cells cells frames.old frames.new result }
-{
-    if !is_free(frames.len(), registers.frames) {
-        return Outcome::Stop(Reason::NoFrame);
+    // Puts a frame down and turns to a part.
+    fn put_down(&mut self, frame: Frame, to: u16, scope: u16) -> Result<(), Reason>
+        ensures is { MovesIf self.old self.new result (λ w s g. perform_of w s g (puts_down (frame_of frame) to scope)) }
+        ensures same { Same self.old self.new }
+        ensures spared { SparedIf self.old self.new result }
+    {
+        let count = one_more(self.registers.frames, self.frames.len(), Reason::NoFrame)?;
+        write(self.frames, self.registers.frames, frame);
+        self.registers.frames = count;
+        self.registers.control = Control::Evaluate { part: to, scope };
+        Ok(())
     }
-    write(frames, registers.frames, frame);
-    Outcome::Next(Registers {
-        control: Control::Evaluate { part: to, scope },
-        frames: registers.frames + 1,
-        ..registers
-    })
-}
 
-// Binds a cell and turns to a part in the scope that begins there.
-fn bind(
-    cells: &mut [Cell],
-    frames: &mut [Frame],
-    registers: Registers,
-    which: Frames,
-    cell: Cell,
-    to: u16,
-) -> Outcome
-    requires { length cells.old ≤ 65535 }
-    ensures is { (w : Reads) → MovesIf registers cells.old cells.new frames.old
-        frames.new result (λ text s g. perform_of w s g (binds (frames_of (registers.frames - 1) which) (cell_of text cell) to)) }
-    ensures stays { StaysIf registers result }
-    ensures spared { Spared cells.old cells.new frames.old frames.new result }
-{
-    if !is_free(cells.len(), registers.cells) {
-        return Outcome::Stop(Reason::NoCell);
-    }
-    let frames = removed(frames, which, registers.frames);
-    write(cells, registers.cells, cell);
-    let count = registers.cells + 1;
-    Outcome::Next(Registers {
-        control: Control::Evaluate {
+    // Binds a cell and turns to a part in the scope that begins there.
+    fn bind(&mut self, which: Frames, cell: Cell, to: u16) -> Result<(), Reason>
+        ensures is { MovesIf self.old self.new result
+            (λ w s g. perform_of w s g (binds (frames_of (g.frame_count - 1) which) (cell_of (text_of self.old) cell) to)) }
+        ensures same { Same self.old self.new }
+        ensures spared { SparedIf self.old self.new result }
+    {
+        let count = one_more(self.registers.cells, self.cells.len(), Reason::NoCell)?;
+        write(self.cells, self.registers.cells, cell);
+        self.registers.frames = removed(self.frames, which, self.registers.frames);
+        self.registers.cells = count;
+        self.registers.control = Control::Evaluate {
             part: to,
             scope: count,
-        },
-        cells: count,
-        frames,
-        ..registers
-    })
-}
-
-// Hands on what can be had.
-fn hand_on<P: Pantry>(
-    frames: &mut [Frame],
-    registers: Registers,
-    pantry: &P,
-    which: Frames,
-    what: Yield,
-) -> Outcome
-    ensures is { (cells : List Cell) → MovesIf registers cells cells frames.old frames.new result
-        (λ text s g. handing s g (frames_of (registers.frames - 1) which) (try (P.meaning pantry.now) (yield_of what))) }
-    ensures stays { StaysIf registers result }
-    ensures spared { (cells : List Cell) → Spared cells cells frames.old frames.new result }
-{
-    match tried(pantry, what) {
-        Ok(value) => Outcome::Next(hand(frames, registers, which, value)),
-        Err(reason) => Outcome::Stop(reason),
+        };
+        Ok(())
     }
-}
 
-// Binds a definition's value and turns to the next definition.
-fn define(
-    program: Program<'_, '_>,
-    scopes: &mut [ModuleScope],
-    cells: &mut [Cell],
-    registers: Registers,
-    name: Span,
-    value: Value,
-    scope: u16,
-) -> Outcome
-    requires table { length scopes.old ≡ 32 }
-    requires room { Room program.tree.now registers }
-    requires short { length cells.old ≤ 65535 }
-    ensures is { Defines program.entry scopes.old scopes.new cells.old cells.new
-        registers result (λ text w s g. perform_of w s g (defines (spelled_in text name) (value_of value) scope)) }
-    ensures size { length scopes.new ≡ 32 }
-    ensures room { RoomAfter program.entry.tree.now result }
-    ensures spared { (frames : List Frame) → Spared cells.old cells.new frames frames result }
-{
-    if !is_free(cells.len(), registers.cells) {
-        return Outcome::Stop(Reason::NoCell);
+    // Binds a definition's value and turns to the next definition.
+    fn define(&mut self, name: Span, value: Value, scope: u16) -> Result<(), Reason>
+        ensures is { MovesIf self.old self.new result
+            (λ w s g. perform_of w s g (defines (spelled_in (text_of self.old) name) (value_of value) scope)) }
+        ensures same { Same self.old self.new }
+        ensures spared { SparedIf self.old self.new result }
+    {
+        let count = one_more(self.registers.cells, self.cells.len(), Reason::NoCell)?;
+        let cell = Cell::Bound(Binding {
+            name,
+            value,
+            outer: scope,
+        });
+        write(self.cells, self.registers.cells, cell);
+        self.registers = self.course.begin(self.sheet.close, count);
+        Ok(())
     }
-    let cell = Cell::Bound(Binding {
-        name,
-        value,
-        outer: scope,
-    });
-    write(cells, registers.cells, cell);
-    let count = registers.cells + 1;
-    Outcome::Next(begin(
-        program,
-        scopes,
-        registers.next,
-        registers.ended,
-        count,
-        count,
-    ))
-}
 
-// Performs an action. One that stops or ends the job alters no table.
-pub(crate) fn perform<P: Pantry>(
-    program: Program<'_, '_>,
-    scopes: &mut [ModuleScope],
-    cells: &mut [Cell],
-    frames: &mut [Frame],
-    registers: Registers,
-    pantry: &P,
-    action: Action,
-) -> Outcome
-    requires table { length scopes.old ≡ 32 }
-    requires room { Room program.tree.now registers }
-    requires cells_short { length cells.old ≤ 65535 }
-    requires frames_short { length frames.old ≤ 65535 }
-    ensures is { Performs program.entry (P.meaning pantry.now) scopes.old scopes.new
-        cells.old cells.new frames.old frames.new registers result
-        (λ text w s g. perform_of w s g (action_of text (registers.frames - 1) action)) }
-    ensures size { length scopes.new ≡ 32 }
-    ensures room { RoomAfter program.entry.tree.now result }
-    ensures spared { Spared cells.old cells.new frames.old frames.new result }
-{
-    match action {
-        Action::Hands {
-            frames: which,
-            what,
-        } => hand_on(frames, registers, pantry, which, what),
-        Action::Binds {
-            frames: which,
-            cell,
-            to,
-        } => bind(cells, frames, registers, which, cell, to),
-        Action::Branches { to, scope } => Outcome::Next(turn(frames, registers, to, scope)),
-        Action::PutsDown { frame, to, scope } => put_down(frames, registers, frame, to, scope),
-        Action::Replaces { frame, to, scope } => Outcome::Next(replace(
-            frames, registers, frame, to, scope,
-        )),
-        Action::Defines { name, value, scope } => define(
-            program, scopes, cells, registers, name, value, scope,
-        ),
-        Action::Ends(value) => Outcome::Done(value),
+    // Performs an action; the closing value, if it ends the job. One that stops or ends the job alters no table.
+    pub(crate) fn perform<P: Pantry>(
+        &mut self,
+        pantry: &P,
+        action: Action,
+    ) -> Result<Option<Value>, Reason>
+        ensures is { Performs (P.meaning pantry.now) self.old self.new result
+            (λ w s g. perform_of w s g (action_of (text_of self.old) (g.frame_count - 1) action)) }
+        ensures same { Same self.old self.new }
+        ensures spared { Spared self.old self.new result }
+    {
+        match action {
+            Action::Hands { frames, what } => self.hand(frames, tried(pantry, what)?),
+            Action::Binds { frames, cell, to } => self.bind(frames, cell, to)?,
+            Action::Branches { to, scope } => self.branch(to, scope),
+            Action::PutsDown { frame, to, scope } => self.put_down(frame, to, scope)?,
+            Action::Replaces { frame, to, scope } => self.replace(frame, to, scope),
+            Action::Defines { name, value, scope } => self.define(name, value, scope)?,
+            Action::Ends(value) => return Ok(Some(value)),
+        }
+        Ok(None)
     }
 }

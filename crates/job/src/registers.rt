@@ -15,28 +15,11 @@ pub enum Target {
     Closing,
 }
 
-// A module whose body has ended, and the scope of that body.
-#[derive(Clone, Copy)]
-pub struct ModuleScope {
-    pub name: Span,
-    pub scope: u16,
-}
-
-impl ModuleScope {
-    pub const BLANK: ModuleScope = ModuleScope {
-        name: Span { place: 0, len: 0 },
-        scope: 0,
-    };
-}
-
-// How far a job has come: the next place of the tree to look for a definition, how many bodies have ended, and how many cells and
-// frames are in use.
+// What a job is at, and how many cells and frames are in use.
 #[derive(Clone, Copy)]
 pub struct Registers {
     pub control: Control,
     pub target: Target,
-    pub next: u16,
-    pub ended: u8,
     pub cells: u16,
     pub frames: u16,
 }

@@ -1,6 +1,7 @@
-ghost use Rattle.std.specs.Prelude.{◌≡◌, ℕ, ◌-◌, ◌<◌, ◌≤◌, List, map, length};
+ghost use Rattle.std.specs.Prelude.{◌≡◌, ℕ, ◌-◌, List, map};
 ghost use Rattle.language.specs.Tree.{node_at};
 ghost use Rattle.language.specs.Machine.{value_cell, frame_at, nearest as nearest_of, hands, kept, plain, puts_down, await_first};
+ghost use Rattle.language.specs.Pantry.{Pantry as Meaning};
 ghost use Rattle.language.specs.Rules.{procedure_at};
 ghost use Rattle.language.specs.Step.{
   testing_zero,
@@ -19,15 +20,15 @@ ghost use Rattle.language.specs.Step.{
 ghost use Rattle.language.specs.Bindings.{spelled_in};
 ghost use Rattle.grammar.specs.Plain.{plain_o};
 ghost use Rattle.grammar.specs.Plan.{node_of};
-ghost use Rattle.job.specs.Maps.{value_of, frame_of, cell_of, target_of, action_of, decided, stored, registers_of};
-ghost use Rattle.job.specs.Rules.{Asks, AsksIn, AsksAt, on_qualified, program_with};
+ghost use Rattle.job.specs.Maps.{value_of, frame_of, cell_of, target_of, action_of};
+ghost use Rattle.job.specs.Rules.{Asks, on_qualified};
+ghost use Rattle.job.specs.Machines.{text_of, Decides};
 
 use crate::actions::{Action, Frames, Yield};
-use crate::arithmetic::is_zero;
 use crate::entries::{asked, from_entry};
 use crate::lookups::{module_scope, value_of};
-use crate::programs::Program;
-use crate::registers::{Control, ModuleScope, Registers, Target};
+use crate::machine::Machine;
+use crate::registers::{Control, Target};
 use crate::tables::{Cell, Frame, Value};
 use grammar::tree::{ExpNode, Node, Operator};
 use language::bindings::Binding;
@@ -67,30 +68,24 @@ fn put_down(part: u16, scope: u16, to: u16) -> Action
 fn tested_zero(value: Value) -> Option<Action>
     ensures { Asks result (λ text d. testing_zero d (value_of value)) }
 {
-    match value {
-        Value::Integer(z) => Some(Action::Hands {
-            frames: Frames::Removed,
-            what: Yield::Plain(Value::Boolean(is_zero(z))),
-        }),
-        _ => None,
-    }
+    let Value::Integer(z) = value else {
+        return None;
+    };
+    Some(Action::Hands {
+        frames: Frames::Removed,
+        what: Yield::Plain(Value::Boolean(z == 0)),
+    })
 }
 
 // The value of a test.
 fn chosen(value: Value, scope: u16, consequent: u16, alternative: u16) -> Option<Action>
     ensures { Asks result (λ text d. choosing d scope consequent alternative (value_of value)) }
 {
-    match value {
-        Value::Boolean(true) => Some(Action::Branches {
-            to: consequent,
-            scope,
-        }),
-        Value::Boolean(false) => Some(Action::Branches {
-            to: alternative,
-            scope,
-        }),
-        _ => None,
-    }
+    let Value::Boolean(holds) = value else {
+        return None;
+    };
+    let to = if holds { consequent } else { alternative };
+    Some(Action::Branches { to, scope })
 }
 
 // The value of the first part of a form.
@@ -152,37 +147,11 @@ fn called(node: Node, scope: u16, value: Value) -> Option<Action>
     }
 }
 
-// A place of the tree; past its end there is none.
-fn node_at(tree: &[Node], part: u16) -> Node
-    ensures { (text : List ℕ) → node_of text result ≡ node_at (map (node_of text) tree.now) part }
-{
-    let i = usize::from(part);
-    if i >= tree.len() {
-        return Node::Blank;
-    }
-    tree[i]
-}
-
-// An operator gets its operand.
-fn applied<P: Pantry>(tree: &[Node], pantry: &P, operator: Value, operand: Value) -> Option<Action>
-    ensures { AsksIn tree.now (P.meaning pantry.now) result
-        (λ text d w. applying w d (value_of operator) (value_of operand)) }
-{
-    match operator {
-        Value::Closure { part, scope } => called(node_at(tree, part), scope, operand),
-        Value::PantryProcedure(entry) => asked(pantry, entry, operand),
-        _ => None,
-    }
-}
-
 // The two sides of an operation.
 fn operated(operator: Operator, left: Value, right: Value) -> Option<Action>
     ensures { Asks result (λ text d. computing d (plain_o operator) (value_of left) (value_of right)) }
 {
-    let Value::Integer(left) = left else {
-        return None;
-    };
-    let Value::Integer(right) = right else {
+    let (Value::Integer(left), Value::Integer(right)) = (left, right) else {
         return None;
     };
     Some(Action::Hands {
@@ -195,132 +164,6 @@ fn operated(operator: Operator, left: Value, right: Value) -> Option<Action>
     })
 }
 
-// The value of the second part of a form; `first` was its first part's.
-fn on_second<P: Pantry>(
-    tree: &[Node],
-    pantry: &P,
-    node: Node,
-    first: Value,
-    value: Value,
-) -> Option<Action>
-    ensures { AsksIn tree.now (P.meaning pantry.now) result
-        (λ text d w. on_second w d (value_of first) (value_of value) (node_of text node)) }
-{
-    let Node::Expression(node) = node else {
-        return None;
-    };
-    match node {
-        ExpNode::Apply { .. } => applied(tree, pantry, first, value),
-        ExpNode::Binary { operator, .. } => operated(operator, first, value),
-        _ => None,
-    }
-}
-
-// The top frame gets a value.
-fn on_frame<P: Pantry>(tree: &[Node], pantry: &P, frame: Frame, value: Value) -> Option<Action>
-    ensures { AsksIn tree.now (P.meaning pantry.now) result
-        (λ text d w. on_frame w d (value_of value) (frame_of frame)) }
-{
-    match frame {
-        Frame::AwaitFirst { part, scope } => on_first(node_at(tree, part), part, scope, value),
-        Frame::AwaitSecond {
-            part,
-            value: first,
-            ..
-        } => on_second(tree, pantry, node_at(tree, part), first, value),
-        Frame::Blank => None,
-    }
-}
-
-// A place of the frames; past their end there is none.
-fn frame_at(frames: &[Frame], place: u16) -> Frame
-    ensures { frame_of result ≡ frame_at (map frame_of frames.now) place }
-{
-    let i = usize::from(place);
-    if i >= frames.len() {
-        return Frame::Blank;
-    }
-    frames[i]
-}
-
-// A name hands its value.
-fn looked_up(text: &[u8], cells: &[Cell], scope: u16, name: &[u8]) -> Option<Action>
-    ensures { Asks result
-        (λ _ _. handing_value (nearest_of (map (cell_of text.now) cells.now) scope name.now)) }
-{
-    match value_of(text, cells, scope, name) {
-        Some(value) => Some(handed(value)),
-        None => None,
-    }
-}
-
-// `from m take x` hands its value.
-fn qualified<P: Pantry>(
-    text: &[u8],
-    cells: &[Cell],
-    scopes: &[ModuleScope],
-    pantry: &P,
-    module: &[u8],
-    name: &[u8],
-) -> Option<Action>
-    ensures { AsksAt text.now cells.now scopes.now (P.meaning pantry.now) result
-        (λ w s g. on_qualified w s g «module».now name.now) }
-{
-    if same_name(b"pantry", module) {
-        return from_entry(pantry, name);
-    }
-    match module_scope(text, scopes, module) {
-        Some(scope) => looked_up(text, cells, scope, name),
-        None => None,
-    }
-}
-
-// A part is evaluated.
-fn on_node<P: Pantry>(
-    text: &[u8],
-    cells: &[Cell],
-    scopes: &[ModuleScope],
-    pantry: &P,
-    node: Node,
-    part: u16,
-    scope: u16,
-) -> Option<Action>
-    ensures { AsksAt text.now cells.now scopes.now (P.meaning pantry.now) result
-        (λ w s g. on_node w s g part scope (node_of text.now node)) }
-{
-    let Node::Expression(node) = node else {
-        return None;
-    };
-    match node {
-        ExpNode::Number { value, .. } => Some(handed(Value::Integer(value))),
-        ExpNode::Boolean { value, .. } => Some(handed(Value::Boolean(value))),
-        ExpNode::Variable { name } => looked_up(text, cells, scope, spelled(text, name)),
-        ExpNode::From { module, name, .. } => qualified(
-            text,
-            cells,
-            scopes,
-            pantry,
-            spelled(text, module),
-            spelled(text, name),
-        ),
-        ExpNode::Proc { .. } => Some(handed(Value::Closure { part, scope })),
-        ExpNode::Letrec { name, rest, .. } => Some(Action::Binds {
-            frames: Frames::Kept,
-            cell: Cell::Letrec(Binding {
-                name,
-                value: part,
-                outer: scope,
-            }),
-            to: rest,
-        }),
-        ExpNode::IsZero { part: to, .. } => Some(put_down(part, scope, to)),
-        ExpNode::Apply { operator, .. } => Some(put_down(part, scope, operator)),
-        ExpNode::Let { bound, .. } => Some(put_down(part, scope, bound)),
-        ExpNode::If { test, .. } => Some(put_down(part, scope, test)),
-        ExpNode::Binary { left, .. } => Some(put_down(part, scope, left)),
-    }
-}
-
 // No frame is left.
 fn ended(target: Target, value: Value) -> Option<Action>
     ensures { Asks result (λ text d. ending (value_of value) (target_of text target)) }
@@ -331,44 +174,146 @@ fn ended(target: Target, value: Value) -> Option<Action>
     }
 }
 
-// The action that the rules ask for, if there is one. Nothing is altered.
-pub(crate) fn rule_for<P: Pantry>(
-    program: Program<'_, '_>,
-    scopes: &[ModuleScope],
-    cells: &[Cell],
-    frames: &[Frame],
-    registers: Registers,
-    pantry: &P,
-) -> Option<Action>
-    requires { registers.ended ≤ length scopes.now }
-    ensures { decided program.entry.text.now (registers.frames - 1) result ≡
-        rule_for (program_with program.entry (P.meaning pantry.now))
-        (stored program.entry.text.now cells.now frames.now)
-        (registers_of program.entry.text.now program.entry.tree.now scopes.now registers) }
-{
-    match registers.control {
-        Control::Evaluate { part, scope } => {
-            let seen = &scopes[0..usize::from(registers.ended)];
-            on_node(
-                program.text,
-                cells,
-                seen,
+impl Machine<'_, '_, '_> {
+    // A place of the tree; past its end there is none.
+    fn node_at(&self, part: u16) -> Node
+        ensures { (text : List ℕ) → node_of text result ≡ node_at (map (node_of text) self.now.sheet.tree.now) part }
+    {
+        self.sheet
+            .tree
+            .get(usize::from(part))
+            .copied()
+            .unwrap_or(Node::Blank)
+    }
+
+    // A place of the frames; past their end there is none.
+    fn frame_at(&self, place: u16) -> Frame
+        ensures { frame_of result ≡ frame_at (map frame_of self.now.frames.now) place }
+    {
+        self.frames
+            .get(usize::from(place))
+            .copied()
+            .unwrap_or(Frame::Blank)
+    }
+
+    // An operator gets its operand.
+    fn applied<P: Pantry>(&self, pantry: &P, operator: Value, operand: Value) -> Option<Action>
+        ensures { Decides (P.meaning pantry.now) self.now result
+            (λ w s g. applying w (g.frame_count - 1) (value_of operator) (value_of operand)) }
+    {
+        match operator {
+            Value::Closure { part, scope } => called(self.node_at(part), scope, operand),
+            Value::PantryProcedure(entry) => asked(pantry, entry, operand),
+            _ => None,
+        }
+    }
+
+    // The value of the second part of a form; `first` was its first part's.
+    fn on_second<P: Pantry>(
+        &self,
+        pantry: &P,
+        node: Node,
+        first: Value,
+        value: Value,
+    ) -> Option<Action>
+        ensures { Decides (P.meaning pantry.now) self.now result
+            (λ w s g. on_second w (g.frame_count - 1) (value_of first) (value_of value) (node_of (text_of self.now) node)) }
+    {
+        let Node::Expression(node) = node else {
+            return None;
+        };
+        match node {
+            ExpNode::Apply { .. } => self.applied(pantry, first, value),
+            ExpNode::Binary { operator, .. } => operated(operator, first, value),
+            _ => None,
+        }
+    }
+
+    // The top frame gets a value.
+    fn on_frame<P: Pantry>(&self, pantry: &P, frame: Frame, value: Value) -> Option<Action>
+        ensures { Decides (P.meaning pantry.now) self.now result
+            (λ w s g. on_frame w (g.frame_count - 1) (value_of value) (frame_of frame)) }
+    {
+        match frame {
+            Frame::AwaitFirst { part, scope } => {
+                on_first(self.node_at(part), part, scope, value)
+            }
+            Frame::AwaitSecond {
+                part,
+                value: first,
+                ..
+            } => self.on_second(pantry, self.node_at(part), first, value),
+            Frame::Blank => None,
+        }
+    }
+
+    // A name hands its value.
+    fn looked_up(&self, scope: u16, name: &[u8]) -> Option<Action>
+        ensures { (p : Meaning) → Decides p self.now result (λ w s g. handing_value (nearest_of s.cells scope name.now)) }
+    {
+        value_of(self.sheet.text, self.cells, scope, name).map(handed)
+    }
+
+    // `from m take x` hands its value.
+    fn qualified<P: Pantry>(&self, pantry: &P, module: &[u8], name: &[u8]) -> Option<Action>
+        ensures { Decides (P.meaning pantry.now) self.now result (λ w s g. on_qualified w s g «module».now name.now) }
+    {
+        if same_name(b"pantry", module) {
+            return from_entry(pantry, name);
+        }
+        let scope = module_scope(self.sheet.text, &self.course.modules, module)?;
+        self.looked_up(scope, name)
+    }
+
+    // A part is evaluated.
+    fn on_node<P: Pantry>(&self, pantry: &P, node: Node, part: u16, scope: u16) -> Option<Action>
+        ensures { Decides (P.meaning pantry.now) self.now result
+            (λ w s g. on_node w s g part scope (node_of (text_of self.now) node)) }
+    {
+        let Node::Expression(node) = node else {
+            return None;
+        };
+        let text = self.sheet.text;
+        match node {
+            ExpNode::Number { value, .. } => Some(handed(Value::Integer(value))),
+            ExpNode::Boolean { value, .. } => Some(handed(Value::Boolean(value))),
+            ExpNode::Variable { name } => self.looked_up(scope, spelled(text, name)),
+            ExpNode::From { module, name, .. } => {
+                self.qualified(pantry, spelled(text, module), spelled(text, name))
+            }
+            ExpNode::Proc { .. } => Some(handed(Value::Closure { part, scope })),
+            ExpNode::Letrec { name, rest, .. } => Some(Action::Binds {
+                frames: Frames::Kept,
+                cell: Cell::Letrec(Binding {
+                    name,
+                    value: part,
+                    outer: scope,
+                }),
+                to: rest,
+            }),
+            ExpNode::IsZero { part: to, .. } => Some(put_down(part, scope, to)),
+            ExpNode::Apply { operator, .. } => Some(put_down(part, scope, operator)),
+            ExpNode::Let { bound, .. } => Some(put_down(part, scope, bound)),
+            ExpNode::If { test, .. } => Some(put_down(part, scope, test)),
+            ExpNode::Binary { left, .. } => Some(put_down(part, scope, left)),
+        }
+    }
+
+    // The action that the rules ask for, if there is one. Nothing is altered.
+    pub(crate) fn rule_for<P: Pantry>(&self, pantry: &P) -> Option<Action>
+        ensures { Decides (P.meaning pantry.now) self.now result (λ w s g. rule_for w s g) }
+    {
+        match self.registers.control {
+            Control::Evaluate { part, scope } => self.on_node(
                 pantry,
-                node_at(program.tree, part),
+                self.node_at(part),
                 part,
                 scope,
-            )
-        }
-        Control::Return(value) => {
-            if registers.frames == 0 {
-                return ended(registers.target, value);
-            }
-            on_frame(
-                program.tree,
-                pantry,
-                frame_at(frames, registers.frames - 1),
-                value,
-            )
+            ),
+            Control::Return(value) => match self.registers.frames.checked_sub(1) {
+                Some(top) => self.on_frame(pantry, self.frame_at(top), value),
+                None => ended(self.registers.target, value),
+            },
         }
     }
 }

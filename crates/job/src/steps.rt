@@ -1,92 +1,66 @@
-ghost use Rattle.std.specs.Prelude.{◌≡◌, ◌+◌, ◌-◌, ◌<◌, ◌≤◌, min, length};
+ghost use Rattle.std.specs.Prelude.{◌≡◌, ◌≤◌, min, length};
+ghost use Rattle.language.specs.Job.{step_limit};
 ghost use Rattle.language.specs.Step.{step as step_of};
-ghost use Rattle.job.specs.Begins.{Room};
-ghost use Rattle.job.specs.Performs.{Performs, Spared, RoomAfter};
-ghost use Rattle.job.specs.Advances.{Advances, room_of, within, Behind};
+ghost use Rattle.job.specs.Performs.{Performs, Same, Spared};
+ghost use Rattle.job.specs.Advances.{Advances};
 
-use crate::actions::Outcome;
 use crate::answers::{Progress, Status};
-use crate::perform::perform;
-use crate::programs::Program;
+use crate::course::Course;
+use crate::machine::Machine;
 use crate::reasons::Reason;
-use crate::registers::{ModuleScope, Registers};
-use crate::rule_choice::rule_for;
-use crate::tables::{Cell, Frame};
+use crate::registers::Registers;
+use crate::tables::{Cell, Frame, Value};
+use grammar::sheet::ReadSheet;
 use pantry::pantries::Pantry;
 
 // A job makes no more steps.
 const STEP_LIMIT: u32 = 4_000_000_000;
 
-// One step. One that stops or ends the job alters no table.
-fn step<P: Pantry>(
-    program: Program<'_, '_>,
-    scopes: &mut [ModuleScope],
-    cells: &mut [Cell],
-    frames: &mut [Frame],
-    registers: Registers,
-    pantry: &P,
-) -> Outcome
-    requires table { length scopes.old ≡ 32 }
-    requires room { Room program.tree.now registers }
-    requires cells_short { length cells.old ≤ 65535 }
-    requires frames_short { length frames.old ≤ 65535 }
-    ensures is { Performs program.entry (P.meaning pantry.now) scopes.old scopes.new
-        cells.old cells.new frames.old frames.new registers result (λ text w s g. step_of w s g) }
-    ensures size { length scopes.new ≡ 32 }
-    ensures room { RoomAfter program.entry.tree.now result }
-    ensures spared { Spared cells.old cells.new frames.old frames.new result }
-{
-    match rule_for(program, scopes, cells, frames, registers, pantry) {
-        Some(action) => perform(program, scopes, cells, frames, registers, pantry, action),
-        None => Outcome::Stop(Reason::NoRule),
-    }
-}
+// No more places of a table count.
+const TABLE_LIMIT: usize = 65_535;
 
-// A job that has not ended goes on for at most so many steps.
-fn stepping<P: Pantry>(
-    program: Program<'_, '_>,
-    scopes: &mut [ModuleScope],
-    cells: &mut [Cell],
-    frames: &mut [Frame],
-    start: Registers,
-    made: u32,
-    pantry: &P,
-    allowance: u32,
-) -> Progress
-    requires table { length scopes.old ≡ 32 }
-    requires room { Room program.tree.now start }
-    requires cells_short { length cells.old ≤ 65535 }
-    requires frames_short { length frames.old ≤ 65535 }
-    requires counted { made ≤ 4000000000 }
-    ensures is { Advances program.entry (P.meaning pantry.now) scopes.old scopes.new
-        cells.old cells.new frames.old frames.new start made allowance result }
-    ensures size { length scopes.new ≡ 32 }
-    ensures room { room_of program.entry.tree.now result.status ≤ 32 }
-    ensures counted { result.steps ≤ 4000000000 }
-{
-    let mut registers = start;
-    let mut steps = made;
-    let mut left = allowance;
-    while left > 0 && steps < STEP_LIMIT {
-        match step(program, scopes, cells, frames, registers, pantry) {
-            Outcome::Next(on) => {
-                registers = on;
-                steps += 1;
-                left -= 1;
-            }
-            Outcome::Done(value) => return Progress {
-                status: Status::Finished(value),
-                steps: steps + 1,
-            },
-            Outcome::Stop(reason) => return Progress {
-                status: Status::Stopped(reason),
-                steps,
-            },
-        }
+impl Machine<'_, '_, '_> {
+    // One step; the closing value, if it ends the job. One that stops or ends the job alters no table.
+    fn step<P: Pantry>(&mut self, pantry: &P) -> Result<Option<Value>, Reason>
+        ensures is { Performs (P.meaning pantry.now) self.old self.new result (λ w s g. step_of w s g) }
+        ensures same { Same self.old self.new }
+        ensures spared { Spared self.old self.new result }
+    {
+        let action = self.rule_for(pantry).ok_or(Reason::NoRule)?;
+        self.perform(pantry, action)
     }
-    Progress {
-        status: Status::Running(registers),
-        steps,
+
+    // Goes on for at most so many steps.
+    fn stepping<P: Pantry>(&mut self, made: u32, pantry: &P, allowance: u32) -> Progress
+        requires { made ≤ step_limit }
+        ensures is { Advances (P.meaning pantry.now) self.old.sheet
+            (record { course = self.old.course.now; cells = self.old.cells.now; frames = self.old.frames.now })
+            (record { course = self.new.course.now; cells = self.new.cells.now; frames = self.new.frames.now })
+            self.old.registers made allowance result }
+        ensures same { Same self.old self.new }
+    {
+        let end = made.saturating_add(allowance).min(STEP_LIMIT);
+        for steps in made..end {
+            match self.step(pantry) {
+                Ok(None) => {}
+                Ok(Some(value)) => {
+                    return Progress {
+                        status: Status::Finished(value),
+                        steps: steps + 1,
+                    };
+                }
+                Err(reason) => {
+                    return Progress {
+                        status: Status::Stopped(reason),
+                        steps,
+                    };
+                }
+            }
+        }
+        Progress {
+            status: Status::Running(self.registers),
+            steps: end,
+        }
     }
 }
 
@@ -94,41 +68,35 @@ fn stepping<P: Pantry>(
 pub(crate) fn limited(len: usize) -> usize
     ensures { result ≡ min 65535 len }
 {
-    if len < 65535 { len } else { 65535 }
+    TABLE_LIMIT.min(len)
 }
 
-// The same on the first 65,535 places of each table.
-pub(crate) fn stepping_within<P: Pantry>(
-    program: Program<'_, '_>,
-    scopes: &mut [ModuleScope],
+// A job that has not ended goes on for at most so many steps, on these tables.
+pub(crate) fn stepping_on<'t, 'r, P: Pantry>(
+    sheet: ReadSheet<'t, 'r>,
+    course: &mut Course<'r>,
     cells: &mut [Cell],
     frames: &mut [Frame],
-    start: Registers,
+    registers: Registers,
     made: u32,
     pantry: &P,
     allowance: u32,
 ) -> Progress
-    requires table { length scopes.old ≡ 32 }
-    requires room { Room program.tree.now start }
-    requires counted { made ≤ 4000000000 }
-    ensures is { Advances program.entry (P.meaning pantry.now) scopes.old scopes.new
-        (within cells.old) (within cells.new) (within frames.old) (within frames.new) start made
-        allowance result }
-    ensures behind { Behind cells.old cells.new frames.old frames.new }
-    ensures size { length scopes.new ≡ 32 }
-    ensures room { room_of program.entry.tree.now result.status ≤ 32 }
-    ensures counted { result.steps ≤ 4000000000 }
+    requires cells_short { length cells.old ≤ 65535 }
+    requires frames_short { length frames.old ≤ 65535 }
+    requires counted { made ≤ step_limit }
+    ensures is { Advances (P.meaning pantry.now) sheet.entry
+        (record { course = course.old; cells = cells.old; frames = frames.old })
+        (record { course = course.new; cells = cells.new; frames = frames.new })
+        registers made allowance result }
+    ensures tree { course.new.tree ≡ course.old.tree }
 {
-    let c = limited(cells.len());
-    let f = limited(frames.len());
-    stepping(
-        program,
-        scopes,
-        &mut cells[0..c],
-        &mut frames[0..f],
-        start,
-        made,
-        pantry,
-        allowance,
-    )
+    let mut machine = Machine {
+        sheet,
+        course,
+        registers,
+        cells,
+        frames,
+    };
+    machine.stepping(made, pantry, allowance)
 }

@@ -18,18 +18,10 @@ pub enum Cell {
     Letrec(Binding<u16>),
 }
 
-impl Cell {
-    pub const BLANK: Cell = Cell::Blank;
-}
-
 // A place of the frame table: a form that waits for the value of its first part, or of its second.
 #[derive(Clone, Copy)]
 pub enum Frame {
     Blank,
     AwaitFirst { part: u16, scope: u16 },
     AwaitSecond { part: u16, scope: u16, value: Value },
-}
-
-impl Frame {
-    pub const BLANK: Frame = Frame::Blank;
 }

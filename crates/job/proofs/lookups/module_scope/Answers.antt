@@ -1,20 +1,23 @@
-use Rattle.std.proofs.Common.{sym, ap, ◌∙◌}
-use Rattle.words.specs.Names.{Name, same_name}
-use Rattle.job.proofs.Found.{scope-here, scope-on, scope-none}
+use Rattle.std.proofs.Common.{Some, None, ap, ◌∙◌, rules}
+use borrow.Author.Tests.{tests}
+use Rattle.std.proofs.lemmas.Iterator.{YieldsList-from_slice}
+use Rattle.std.proofs.lemmas.Iterator.Search.{find_from_yields_List}
+use Rattle.words.specs.Names.{same_name}
+use Rattle.language.specs.Bindings.{spelled_in}
+use Rattle.job.specs.declared.course.ModuleScope.{ModuleScope}
+use Rattle.job.specs.Lookups.{maybe, same}
+use Rattle.job.proofs.Found.{scope-found}
 use Rattle.job.proofs.lookups.module_scope.Goals as goal
 
-pub returns-then-same_name : goal.returns-then-same_name
-returns-then-same_name c =
-    let s = ap (λ (y : Name). same_name y c.args.name.now) (sym c.spelled.ensures) ∙ sym c.if-same_name.ensures in
-    sym (c.loop-m.invariant ∙ scope-here c.args.text.now c.args.scopes.now c.loop-m.m-index _ c.args.name.now
-    c.loop-m-test.true s)
-
-pub loop-m-preserved : goal.loop-m-preserved
-loop-m-preserved c =
-    let s = ap (λ (y : Name). same_name y c.args.name.now) (sym c.spelled.ensures) ∙ sym c.if-same_name.ensures in
-    c.loop-m.invariant ∙ scope-on c.args.text.now c.args.scopes.now c.loop-m.m-index _ c.args.name.now
-    c.loop-m-test.true s
+pub returns-in_err-module : goal.returns-in_err-module
+returns-in_err-module c =
+    let found = find_from_yields_List (λ (m : ModuleScope). same_name (spelled_in c.args.text.now m.name) c.args.name.now) _ _ c.find.result
+    c.find.ensures.ran (YieldsList-from_slice c.args.scopes.now (cc)) (λ x b q k. search (rules, tests)) in
+    ap (maybe same) c.from_residual.ensures ∙
+    scope-found c.args.text.now c.args.scopes.now c.args.name.now c.find.result None c.in_err-module.was found
 
 pub returns : goal.returns
-returns c = sym (c.loop-m.invariant ∙ scope-none c.args.text.now c.args.scopes.now c.loop-m.m-index c.args.name.now
-    c.loop-m-test.false)
+returns c =
+    let found = find_from_yields_List (λ (m : ModuleScope). same_name (spelled_in c.args.text.now m.name) c.args.name.now) _ _ c.find.result
+    c.find.ensures.ran (YieldsList-from_slice c.args.scopes.now (cc)) (λ x b q k. search (rules, tests)) in
+    scope-found c.args.text.now c.args.scopes.now c.args.name.now c.find.result (Some c.in_ok-module.module) c.in_ok-module.was found

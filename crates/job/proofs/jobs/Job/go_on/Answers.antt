@@ -1,44 +1,46 @@
-use Rattle.std.proofs.Common.{refl}
-use Rattle.language.specs.Machine.{program_of}
-use Rattle.job.specs.Advances.{within}
-use Rattle.job.specs.Jobs.{plan_for, store_for}
-use Rattle.job.proofs.Standing.{advanced-is, advanced-on, ended_is, adds}
+use Rattle.std.proofs.Common.{◌≡◌, length}
+use Rattle.job.specs.Jobs.{plan_for}
+use Rattle.job.proofs.Within.{behind, back_length}
+use Rattle.job.proofs.Standing.{advanced-is, adds}
 use Rattle.job.proofs.jobs.Job.go_on.Goals as goal
 
-pub returns-in_default : goal.returns-in_default
-returns-in_default g c =
+pub returns-clause-is : goal.returns-clause-is
+returns-clause-is g c =
     let job = c.args.self.now in
-    let plan = plan_for job.pass in
-    let m = g.P.Pantry.meaning c.args.pantry.now in
-    let e = ended_is (program_of plan m) (store_for job.pass c.args.cells.now c.args.frames.now) job.pass.sheet.text.now
-    job.pass.sheet.tree.now
-    job.scopes job.progress.status job.progress.steps c.args.allowance c.in_default.not-Running in
+    let cells = c.args.cells.now in
+    let frames = c.args.frames.now in
+    let run = c.stepping_on-self in
+    let i = c.limited-c in
+    let j = c.limited-f in
+    advanced-is job.pass.sheet job.course run.new.course (g.P.Pantry.meaning c.args.pantry.now) cells run.new.cells frames
+    run.new.frames i.result j.result c.in-Running.registers job.progress.status job.progress.steps c.args.allowance run.result
+    i.ensures j.ensures (back_length cells run.new.cells i.result i.ensures run.auto.cells)
+    (back_length frames run.new.frames j.result j.ensures run.auto.frames) c.in-Running.is run.ensures.is
+
+pub returns-clause-behind : goal.returns-clause-behind
+returns-clause-behind g c =
+    let cells = c.args.cells.now in
+    let frames = c.args.frames.now in
+    let run = c.stepping_on-self in
+    let i = c.limited-c in
+    let j = c.limited-f in
     record {
-      is = e;
-      behind = record { cells_stay = refl; frames_stay = refl };
-      adds = λ b. adds plan m c.args.allowance b _ _ e;
-      pass = record { text = refl; tree = refl; close = refl };
+      cells_stay = behind cells run.new.cells i.result i.ensures (back_length cells run.new.cells i.result i.ensures run.auto.cells);
+      frames_stay = behind frames run.new.frames j.result j.ensures
+          (back_length frames run.new.frames j.result j.ensures run.auto.frames);
     }
 
-pub returns : goal.returns
-returns g c =
+pub returns-clause-adds : goal.returns-clause-adds
+returns-clause-adds g c b =
     let job = c.args.self.now in
-    let plan = plan_for job.pass in
+    let cells = c.args.cells.now in
+    let frames = c.args.frames.now in
     let m = g.P.Pantry.meaning c.args.pantry.now in
-    let on = advanced-on c.program_of.ensures.text c.program_of.ensures.tree c.program_of.ensures.close m job.scopes
-    c.stepping_within-after.new.scopes
-    (within c.args.cells.now) (within c.stepping_within-after.new.cells) (within c.args.frames.now)
-    (within c.stepping_within-after.new.frames)
-    c.in-Running.registers job.progress.steps c.args.allowance c.stepping_within-after.result
-    c.stepping_within-after.ensures.is in
-    let e = advanced-is job.pass.sheet.text.now job.pass.sheet.tree.now job.pass.sheet.close m job.scopes
-    c.stepping_within-after.new.scopes
-    c.args.cells.now c.stepping_within-after.new.cells c.args.frames.now c.stepping_within-after.new.frames
-    c.in-Running.registers job.progress.status job.progress.steps c.args.allowance c.stepping_within-after.result
-    c.in-Running.is on in
-    record {
-      is = e;
-      behind = c.stepping_within-after.ensures.behind;
-      adds = λ b. adds plan m c.args.allowance b _ _ e;
-      pass = record { text = refl; tree = refl; close = refl };
-    }
+    let run = c.stepping_on-self in
+    let i = c.limited-c in
+    let j = c.limited-f in
+    adds (plan_for job.pass) m c.args.allowance b _ _
+    (advanced-is job.pass.sheet job.course run.new.course m cells run.new.cells frames run.new.frames i.result j.result
+    c.in-Running.registers job.progress.status job.progress.steps c.args.allowance run.result i.ensures j.ensures
+    (back_length cells run.new.cells i.result i.ensures run.auto.cells)
+    (back_length frames run.new.frames j.result j.ensures run.auto.frames) c.in-Running.is run.ensures.is)
