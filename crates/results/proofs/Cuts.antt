@@ -54,8 +54,5 @@ for-line : (xs : List ℕ) → answer (refusal_bytes line_refusal) xs ≡ answer
 unfolding refusal_bytes digits
 for-line xs = refl
 
-pub room : (r : Refusal) (xs : List ℕ) (e : TooShort) → r ≡ line_refusal → length xs ≡ 24 → Err e ≡ answer (refusal_bytes r) xs → ⊥
-room r xs e q l a =
-    let w : Err e ≡ answered 24 = a ∙ (ap (λ (f : Refusal). answer (refusal_bytes f) xs) q ∙ (for-line xs ∙ ap answered l)) in
-    let y : ◌≡◌ {A = ℕ} 0 1 = cc in
-    omega arith
+pub room : (r : Refusal) (xs : List ℕ) (w : Result ℕ TooShort) → r ≡ line_refusal → length xs ≡ 24 → w ≡ answer (refusal_bytes r) xs → w ≡ Ok 24
+room r xs w q l a = a ∙ (ap (λ (f : Refusal). answer (refusal_bytes f) xs) q ∙ (for-line xs ∙ ap answered l))

@@ -1,6 +1,7 @@
 -- Each stage on the way to the line, from what the calls of the layers promise.
-use Rattle.std.proofs.Common.{◌≡◌, ℕ, ◌+◌, ◌≤◌, List, [], map, length, take, replicate, Ok, Err, Result, sym, refl, ap, ◌∙◌, subst, arith, length-take}
+use Rattle.std.proofs.Common.{◌≡◌, ℕ, ◌+◌, ◌≤◌, List, [], map, length, take, replicate, Ok, Err, None, Result, sym, refl, ap, ◌∙◌, arith, length-take}
 use lib.ListN.{length-replicate, length-map}
+use Rattle.std.specs.Result.{IsErrAnd}
 use Rattle.language.specs.Tree.{Plan}
 use Rattle.language.specs.Pantry.{Pantry, stock_of}
 use Rattle.language.specs.Typing.{ExpandedType, stock_types}
@@ -9,9 +10,9 @@ use Rattle.language.specs.Machine.{blank_cell, blank_frame, store_of}
 use Rattle.language.specs.Job as language
 use Rattle.language.specs.Job.{blanked, opened}
 use Rattle.language.proofs.Checks.{one_type}
-use Rattle.grammar.specs.declared.faults.Fault.{Fault}
+use Rattle.pantry.specs.File.{fault, records_of}
+use Rattle.pantry.specs.Items.{item_pantry}
 use Rattle.grammar.specs.declared.tree.Node.{Node}
-use Rattle.grammar.specs.Faults as grammar_faults
 use Rattle.grammar.specs.Syntax.{Sheet}
 use Rattle.grammar.specs.Plain.{plain}
 use Rattle.grammar.specs.Plan.{plan_of}
@@ -27,7 +28,6 @@ use Rattle.rules.specs.Laws.{Typed}
 use Rattle.rules.proofs.Passing.{passing-sound}
 use Rattle.typing.specs.declared.types.TypeEntry.{TypeEntry}
 use Rattle.typing.specs.declared.types.Slot.{Slot}
-use Rattle.typing.specs.Told.{type_told}
 use Rattle.checker.specs.declared.passes.Pass.{Pass}
 use Rattle.checker.specs.Passes.{sheet_read, sheet_in}
 use Rattle.checker.specs.Runs.{Ends}
@@ -35,14 +35,24 @@ use Rattle.job.specs.declared.tables.Cell.{Cell}
 use Rattle.job.specs.declared.tables.Frame.{Frame}
 use Rattle.job.specs.Maps.{cell_of, frame_of}
 use Rattle.job.specs.Jobs.{plan_for, store_for, SamePass}
-use Rattle.line.specs.declared.faults.TooShort.{TooShort}
-use Rattle.line.specs.Faults.{layer_of, grammar_refusal, check_refusal}
+use Rattle.line.specs.declared.outcomes.Refusal.{Refusal}
+use Rattle.line.specs.Faults.{check_refusal}
 use Rattle.line.specs.Lines.{refusal_bytes}
-use Rattle.results.specs.Panel.{counted, answer_on, ran_line, checked_line, read_line, Wrote}
+use Rattle.results.specs.declared.setups.Setup.{Setup}
+use Rattle.results.specs.declared.telling.Run.{Run}
+use Rattle.results.specs.Panel.{counted, answer_on, ran_line, checked_line, read_line, text_line, file_line, told}
 
--- the same line under another telling
-pub wrote_as : {cs bs : List ℕ} {r : Result ℕ TooShort} {xs ys : List ℕ} → cs ≡ bs → Wrote cs r xs ys → Wrote bs r xs ys
-wrote_as {r = r} {xs = xs} {ys = ys} e w = subst (λ (zs : List ℕ). Wrote zs r xs ys) e w
+-- ── what was told ──
+
+-- a refusal that the `?` made
+pub refused-told : (r : Result Run Refusal) (f : Refusal) → IsErrAnd r (λ e. e ≡ f) → told r ≡ refusal_bytes f
+refused-told (Ok x) f h = absurd h
+refused-told (Err e) f h = ap refusal_bytes h
+
+-- the line over a file that loading accepts
+pub on-file : (file over text : List ℕ) (s : Setup) → over ≡ file → None ≡ fault file →
+    text_line (item_pantry (records_of over)) text s ≡ file_line file text s (fault file)
+on-file file over text s e n = ap (λ (f : List ℕ). text_line (item_pantry (records_of f)) text s) e ∙ ap (file_line file text s) n
 
 -- ── the run ──
 
@@ -94,23 +104,14 @@ module _ (text : List ℕ) (m : check.Out (List ExpandedType) rules.Scope) (no_t
       Typed (stock_of p) sheet t → checked_line p plan cells frames allowance (checking (stock_of p) tp sp sheet) ≡ ran_line p plan cells frames allowance t
   passed-line sheet tp sp k t h typed = passed-by sheet tp sp k t _ refl h typed
 
--- what a pass reads, told by its parts
-pub pass-line : (q : Pass) (p : Pantry) (cells frames allowance : ℕ) (text : List ℕ) (nodes : List Node) (close : ℕ) (types : List TypeEntry) (k : ℕ) →
-    q.sheet.text.now ≡ text → q.sheet.tree.now ≡ nodes → q.sheet.close ≡ close → q.types.now ≡ types → q.number ≡ k →
-    ran_line p (plan_for q) cells frames allowance (type_told q.sheet.text.now q.types.now q.number) ≡
-    ran_line p (plan_of text nodes close) cells frames allowance (type_told text types k)
-pass-line q p cells frames allowance text nodes close types k e f h i j = cc
+-- the plan of a pass, told by its parts
+pub pass-plan : (q : Pass) (text : List ℕ) (nodes : List Node) (close : ℕ) →
+    q.sheet.text.now ≡ text → q.sheet.tree.now ≡ nodes → q.sheet.close ≡ close → plan_for q ≡ plan_of text nodes close
+pass-plan q text nodes close e f h = cc
 
 -- ── the reading ──
 
 module _ (p : Pantry) (text : List ℕ) (types scope cells frames allowance : ℕ) (ns ms : List Node) where
-  pub unread-line : (o : reading.Out Sheet) (f : Fault) → Answered o (Err f) ns ms →
-      read_line p text types scope cells frames allowance o ≡ refusal_bytes (grammar_refusal f)
-  unread-line (reading.bad k at) f h =
-      let z : grammar_faults.refusal k at ≡ grammar_faults.refusal_of f = (let y = h.0 in cc) in
-      ap (λ (r : grammar_faults.Refusal). refusal_bytes (record { number = r.number; place = r.place; layer = layer_of r.layer })) z
-  unread-line (reading.good s e) f h = let y = h.0 in let z : ◌≡◌ {A = ℕ} 0 1 = cc in absurd (omega arith)
-
   -- what is read with fewer places is read with more
   more-places : (n : ℕ) (s : Sheet) (e : ℕ) → n ≤ 65535 → reading.reading n text ≡ reading.good s e → reading.reading 65535 text ≡ reading.good s e
   more-places n s e h q =

@@ -1,5 +1,5 @@
 -- The line on a sheet: the whole way from the bytes of an item file and of a sheet. Assumes nothing.
-use Rattle.std.specs.Prelude.{◌≡◌, ℕ, min, cond, List, length, replicate, Some, None, Option, Result, nat_le}
+use Rattle.std.specs.Prelude.{◌≡◌, ℕ, min, cond, List, length, replicate, Some, None, Ok, Err, Option, Result, nat_le}
 use Rattle.language.specs.Scopes.{table_limit}
 use Rattle.language.specs.Tree.{Plan}
 use Rattle.language.specs.Pantry.{Pantry, stock_of}
@@ -21,8 +21,12 @@ use Rattle.line.specs.declared.faults.TooShort.{TooShort}
 use Rattle.line.specs.declared.outcomes.Refusal.{Refusal}
 use Rattle.line.specs.Faults.{layer_of, check_refusal, items_refusal, line_refusal}
 use Rattle.line.specs.Answers.{outcome_of}
-use Rattle.line.specs.Lines.{refusal_bytes, line_of, answer, written}
+use Rattle.line.specs.Lines.{refusal_bytes, closing_of, line_of, answer, written}
+use Rattle.job.specs.Maps as job
 use Rattle.results.specs.declared.setups.Setup.{Setup}
+use Rattle.results.specs.declared.tables.Tables.{Tables}
+use Rattle.results.specs.declared.tables.Store.{Store}
+use Rattle.results.specs.declared.telling.Run.{Run}
 
 -- how many places of a table of that length count
 abbrev pub counted : ℕ → ℕ
@@ -75,3 +79,20 @@ printed file text s = cond (nat_le (length (panel_line file text s)) s.buffer) (
 pub record Wrote (bs : List ℕ) (r : Result ℕ TooShort) (xs ys : List ℕ) : Type 0 where
   pub answers : r ≡ answer bs xs
   pub leaves : ys ≡ written bs xs
+
+-- how long the lent tables are
+abbrev pub lent : Tables → Store → (buffer : ℕ) → Setup
+lent t s n = record {
+  tree = length t.tree.now;
+  types = length t.types.now;
+  scope = length t.slots.now;
+  cells = length s.cells.now;
+  frames = length s.frames.now;
+  allowance = s.allowance;
+  buffer = n;
+}
+
+-- the line on what was run, or was refused
+abbrev pub told : Result Run Refusal → List ℕ
+told (Ok r) = line_of (item_pantry (records_of r.pantry.file.now)) (closing_of r.closing) (outcome_of (job.answer_of r.answer))
+told (Err r) = refusal_bytes r

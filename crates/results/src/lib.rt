@@ -3,6 +3,7 @@
 
 pub mod printing;
 pub mod setups;
+mod tables;
 mod telling;
 
 pub use printing::{line, panel};

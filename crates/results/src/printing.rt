@@ -1,10 +1,11 @@
-ghost use Rattle.std.specs.Prelude.{◌≡◌, ◌<◌, ◌≤◌, IfOk};
+ghost use Rattle.std.specs.Prelude.{◌≡◌, IfOk};
 ghost use Rattle.line.specs.Faults.{line_refusal};
 ghost use Rattle.line.specs.Lines.{refusal_bytes};
 ghost use Rattle.results.specs.Panel.{printed};
 ghost use Rattle.results.specs.Samples.{Samples, panel_setup};
 
 use crate::setups::Setup;
+use crate::tables::{Store, Tables};
 use crate::telling::tell;
 use grammar::tree::Node;
 use job::{Cell, Frame};
@@ -12,18 +13,14 @@ use line::{TooShort, write_refusal};
 use std::alloc::{AllocError, Global};
 use typing::types::{Slot, TypeEntry};
 
-// The line that says that the buffer is too short.
+// The line that says that the buffer is too short. It has 24 bytes, so the 0 is never given.
 fn refused(heap: Global, fault: TooShort) -> Result<Vec<u8>, AllocError>
     ensures { IfOk result (λ v. v.items ≡ refusal_bytes line_refusal) }
 {
     let mut buffer = vec![in heap; 0u8; 24]?;
-    match write_refusal(fault.into(), &mut buffer) {
-        Ok(len) => {
-            buffer.truncate(len);
-            Ok(buffer)
-        }
-        Err(_) => unreachable(),
-    }
+    let len = write_refusal(fault.into(), &mut buffer).unwrap_or(0);
+    buffer.truncate(len);
+    Ok(buffer)
 }
 
 // The line, written over tables of repeated blank records.
@@ -33,20 +30,20 @@ fn print(heap: Global, file: &[u8], text: &[u8], setup: Setup) -> Result<Vec<u8>
     let mut tree = vec![in heap; Node::Blank; setup.tree]?;
     let mut types = vec![in heap; TypeEntry::Blank; setup.types]?;
     let mut slots = vec![in heap; Slot::Blank; setup.scope]?;
-    let mut cells = vec![in heap; Cell::BLANK; setup.cells]?;
-    let mut frames = vec![in heap; Frame::BLANK; setup.frames]?;
+    let mut cells = vec![in heap; Cell::Blank; setup.cells]?;
+    let mut frames = vec![in heap; Frame::Blank; setup.frames]?;
     let mut buffer = vec![in heap; 0u8; setup.buffer]?;
-    match tell(
-        file,
-        text,
-        &mut tree,
-        &mut types,
-        &mut slots,
-        &mut cells,
-        &mut frames,
-        setup.allowance,
-        &mut buffer,
-    ) {
+    let tables = Tables {
+        tree: &mut tree,
+        types: &mut types,
+        slots: &mut slots,
+    };
+    let store = Store {
+        cells: &mut cells,
+        frames: &mut frames,
+        allowance: setup.allowance,
+    };
+    match tell(file, text, tables, store, &mut buffer) {
         Ok(len) => {
             buffer.truncate(len);
             Ok(buffer)

@@ -1,17 +1,18 @@
-use Rattle.std.proofs.Common.{◌≡◌, length, sym, ap, ◌∙◌}
+use Rattle.std.proofs.Common.{◌≡◌, ℕ, length, ◌++◌, take, drop, sym, ap, ◌∙◌}
 use Rattle.line.specs.Lines.{refusal_bytes}
 use Rattle.results.proofs.Cuts.{cut, room}
 use Rattle.results.proofs.printing.refused.Goals as goal
 
-pub unreachable-requires : goal.unreachable-requires
-unreachable-requires c =
-    let l : length c.deref_mut.result.now ≡ 24 = c.deref_mut.ensures.len ∙ c.in_ok-buffer.ensures.len in
-    room c.into.result c.deref_mut.result.now c.in-Err.field-0 c.into.ensures l c.in-Err.ensures.answer
-
 pub returns : goal.returns
 returns c =
-    let e = c.into.ensures in
+    let xs = c.deref_mut.result.now in
+    let ys = c.write_refusal.new.buffer in
+    let w = c.write_refusal.ensures in
     let l = c.deref_mut.ensures.len in
-    c.truncate.ensures.items ∙ (cut (refusal_bytes c.into.result) c.deref_mut.result.now c.write_refusal.new.buffer c.in_ok-buffer.buffer.items
-    c.in-Ok.len c.in_ok-buffer.buffer.len (sym l) (record { answers = c.in-Ok.ensures.answer; leaves = c.in-Ok.ensures.written }) ∙
-    ap refusal_bytes e)
+    let full = room c.into.result xs c.write_refusal.result c.into.ensures (l ∙ c.in_ok-buffer.ensures.len) w.answer in
+    let len : c.unwrap_or-len.result ≡ 24 = rw full at c.unwrap_or-len.ensures in
+    c.truncate.ensures.items
+    ∙ ap (λ (n : ℕ). take n (take c.in_ok-buffer.buffer.len (ys ++ drop (length ys) c.in_ok-buffer.buffer.items))) len
+    ∙ cut (refusal_bytes c.into.result) xs ys c.in_ok-buffer.buffer.items 24 c.in_ok-buffer.buffer.len (sym l)
+    (record { answers = sym full ∙ w.answer; leaves = w.written })
+    ∙ ap refusal_bytes c.into.ensures
