@@ -45,6 +45,7 @@ pub(crate) fn find(rows: &[Row], item: u32) -> Option<Record>
     ensures { result ≡ first_with item (map record_of rows.now) }
 {
     rows.iter()
-        .map(|row| Record::from(*row))
+        .copied()
+        .map(Record::from)
         .find(|record| u32::from(record.item) == item)
 }

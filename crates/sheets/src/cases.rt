@@ -37,7 +37,7 @@ impl Case {
                 }
             }
             "set" => {
-                let (key, number) = argument.split_once(' ').context("nothing is set")?;
+                let (key, number) = argument.split_once(' ').context("no number is told")?;
                 set(&mut self.setup, key, number.parse()?)?;
             }
             _ => bail!("a line begins with an unknown word"),
