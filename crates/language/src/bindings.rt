@@ -8,7 +8,7 @@ use words::names::same_name;
 
 // A name in scope, what it is bound to, and the link to the next outer binding. A link is one more than a place of the table; 0 is the
 // empty scope.
-#[derive(Clone, Copy)]
+#[derive(Clone, Copy, Debug, PartialEq, Eq)]
 pub struct Binding<V> {
     pub name: Span,
     pub value: V,
