@@ -27,14 +27,7 @@ fn check_entries(
 {
     let t = types.len().min(65535);
     let s = slots.len().min(65535);
-    check_tables(
-        sheet.text,
-        sheet.tree,
-        sheet.close,
-        entries,
-        &mut types[0..t],
-        &mut slots[0..s],
-    )
+    check_tables(sheet, entries, &mut types[0..t], &mut slots[0..s])
 }
 
 // Checks a sheet that was read, with a pantry: the number of its type in the type table, or the one refusal. The tables are blanked first, and

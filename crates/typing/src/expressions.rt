@@ -48,7 +48,7 @@ impl Tables<'_, '_, '_> {
         }
     }
 
-    // The wish for a type that the expression at `i` is to have, which it has or has not.
+    // The expression at `i` has to have the type that is wanted of it.
     fn want(&self, has: bool, i: u16) -> Result<(), CheckFault>
         ensures { result ≡ cond has (Ok tt) (Err (Unwanted (placed self.now.given i))) }
     {

@@ -6,8 +6,9 @@ use language::bindings::{Binding, Holds};
 use language::spans::Span;
 
 // A place of the type table. A type is told by its place.
-#[derive(Clone, Copy)]
+#[derive(Clone, Copy, Debug, Default, PartialEq, Eq)]
 pub enum TypeEntry {
+    #[default]
     Blank,
     Int,
     Bool,
@@ -16,8 +17,9 @@ pub enum TypeEntry {
 }
 
 // A place of the scope table.
-#[derive(Clone, Copy)]
+#[derive(Clone, Copy, Debug, Default, PartialEq, Eq)]
 pub enum Slot {
+    #[default]
     Blank,
     OfType(Binding<u16>),
     OfValue(Binding<u16>),
@@ -37,7 +39,7 @@ impl Holds for Slot {
 }
 
 // What is in scope: how many places of the scope table are in use, and where the search for a type name and for a value name begins.
-#[derive(Clone, Copy)]
+#[derive(Clone, Copy, Debug, PartialEq, Eq)]
 pub struct Scope {
     pub used: u16,
     pub types: u16,
@@ -58,7 +60,7 @@ impl Scope {
 }
 
 // The interface of a checked module: where the search for its type names and for its value names begins.
-#[derive(Clone, Copy)]
+#[derive(Clone, Copy, Debug, Default, PartialEq, Eq)]
 pub struct Interface {
     pub name: Span,
     pub types: u16,

@@ -1,15 +1,10 @@
-use Rattle.std.proofs.Common.{◌≡◌, length, is_some, ap, arith}
+use Rattle.std.proofs.Common.{◌≡◌, length, arith}
 use Rattle.grammar.specs.Table.{modules_of}
 use Rattle.checker.specs.Stocks.{stock_in}
 use Rattle.checker.specs.Passes.{sheet_in}
 use Rattle.checker.proofs.Lent.{told-whole}
 use Rattle.checker.proofs.ReadTrees.{read-facts, sheet-in}
 use Rattle.checker.proofs.checks.check_entries.Goals as goal
-
-pub check_tables-requires : goal.check_tables-requires
-check_tables-requires c =
-    let f = read-facts c.args.sheet.text.now c.args.sheet.tree.now c.args.sheet.close c.args.sheet.read in
-    record { holds = f.holds; closes = ap is_some f.closing-is; few = f.few; room = c.requires }
 
 pub returns : goal.returns
 returns c =
