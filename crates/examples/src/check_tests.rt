@@ -8,41 +8,53 @@ use rules::faults::CheckFault;
 use std::test;
 use typing::types::{Slot, TypeEntry};
 
-// Whether a sheet of at most 32 nodes is refused with this number at this place, with tables of 16 types and 8 names.
-fn refused(text: &[u8], number: u8, place: u16) -> bool {
+// The number and the place of the refusal of a sheet of at most 32 nodes, with tables of 16 types and 8 names.
+fn refused(text: &[u8]) -> Option<(u8, u16)> {
     let mut tree = [Node::Blank; 32];
-    let Ok(close) = read(text, &mut tree) else {
-        return false;
-    };
+    let close = read(text, &mut tree).ok()?;
     let mut types = [TypeEntry::Blank; 16];
     let mut slots = [Slot::Blank; 8];
-    match check(
+    let fault = check(
         sheet(text, &tree, close),
         &no_items(),
         &mut types,
         &mut slots,
-    ) {
-        Ok(_) => false,
-        Err(fault) => fault.number() == number && fault.place() == place,
-    }
+    )
+    .err()?;
+    Some((fault.number(), fault.place()))
 }
 
 #[test]
 fn each_refusal_has_its_place(rt: HostRuntime) {
-    assert!(rt; refused(b"module m interface [x : int x : int] body [] 1", 8, 28));
-    assert!(rt; refused(b"let x = y in x", 9, 8));
-    assert!(rt; refused(b"proc (x : t) x", 10, 10));
-    assert!(rt; refused(b"if 1 then 2 else 3", 11, 3));
-    assert!(rt; refused(b"(1 2)", 12, 1));
-    assert!(rt; refused(b"module m interface [x : int] body [] 1", 13, 20));
-    assert!(rt; refused(b"module m interface [x : int] body [x = true] 1", 14, 20));
+    assert_eq!(rt;
+        refused(b"module m interface [x : int x : int] body [] 1"),
+        Some((8, 28))
+    );
+    assert_eq!(rt; refused(b"let x = y in x"), Some((9, 8)));
+    assert_eq!(rt; refused(b"proc (x : t) x"), Some((10, 10)));
+    assert_eq!(rt; refused(b"if 1 then 2 else 3"), Some((11, 3)));
+    assert_eq!(rt; refused(b"(1 2)"), Some((12, 1)));
+    assert_eq!(rt;
+        refused(b"module m interface [x : int] body [] 1"),
+        Some((13, 20))
+    );
+    assert_eq!(rt;
+        refused(b"module m interface [x : int] body [x = true] 1"),
+        Some((14, 20))
+    );
 }
 
 #[test]
 fn the_first_in_the_order_of_checks_counts(rt: HostRuntime) {
-    assert!(rt; refused(b"if 1 then 2 else z", 9, 17));
-    assert!(rt; refused(b"letrec int f (x : int) = true in z", 11, 25));
-    assert!(rt; refused(b"module m interface [x : int y : t] body [] 1", 10, 32));
+    assert_eq!(rt; refused(b"if 1 then 2 else z"), Some((9, 17)));
+    assert_eq!(rt;
+        refused(b"letrec int f (x : int) = true in z"),
+        Some((11, 25))
+    );
+    assert_eq!(rt;
+        refused(b"module m interface [x : int y : t] body [] 1"),
+        Some((10, 32))
+    );
 }
 
 #[test]

@@ -5,4 +5,6 @@
 #[cfg(test)]
 mod check_tests;
 #[cfg(test)]
+mod job_tests;
+#[cfg(test)]
 mod line_tests;

@@ -2,7 +2,7 @@ use job::answers::Answer;
 use language::spans::Span;
 use line::faults::TooShort;
 use line::lines::{write_line, write_refusal};
-use line::outcomes::{Outcome, Refusal, Value};
+use line::outcomes::{Outcome, Value};
 use line::types::ClosingType;
 use pantry::factors::Factors;
 use pantry::faults::NoAnswer;
@@ -10,7 +10,7 @@ use std::process::Abort;
 use std::test;
 use typing::types::TypeEntry;
 
-// Whether the line of an outcome is the text, where the closing type is the arrow from the hidden type of `salt` to `int`.
+// Asserts that the line of an outcome is the text, where the closing type is the arrow from the hidden type of `salt` to `int`.
 fn tells(rt: &impl Abort, outcome: Outcome, line: &[u8]) -> Result<(), test::Fail> {
     let module = Span { place: 0, len: 4 };
     let name = Span { place: 5, len: 1 };
@@ -32,8 +32,7 @@ fn tells(rt: &impl Abort, outcome: Outcome, line: &[u8]) -> Result<(), test::Fai
     let n = write_line(&Factors, closing, outcome, &mut buffer)
         .ok()
         .ok_or("too short")?;
-    assert!(rt; n <= 64);
-    assert!(rt; &buffer[0..n] == line);
+    assert_eq!(rt; buffer.get(..n), Some(line));
     Ok(())
 }
 
@@ -66,7 +65,6 @@ fn tells_a_missing_answer(rt: HostRuntime) -> Result<(), test::Fail> {
 #[test]
 fn leaves_a_short_buffer(rt: HostRuntime) {
     let mut buffer = [7; 23];
-    let refusal: Refusal = TooShort.into();
-    assert!(rt; write_refusal(refusal, &mut buffer).is_err());
-    assert!(rt; &buffer == &[7; 23]);
+    assert_eq!(rt; write_refusal(TooShort.into(), &mut buffer), Err(TooShort));
+    assert_eq!(rt; buffer, [7; 23]);
 }
