@@ -100,7 +100,8 @@ def enums(sources):
         text = plain(path.read_text())
         for m in re.finditer(r"\benum (\w+)[^{]*\{", text):
             stop = closing(text, m.end() - 1, "{", "}")
-            variants = [" ".join(v.split()) for v in split_commas(text[m.end():stop - 1])]
+            cases = re.sub(r"#\[\w+\]", "", text[m.end():stop - 1])
+            variants = [" ".join(v.split()) for v in split_commas(cases)]
             yield shown, text.count("\n", 0, m.start()) + 1, m.group(1), variants
 
 
