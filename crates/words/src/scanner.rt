@@ -14,6 +14,9 @@ use crate::marks::{Mark, mark_of};
 use crate::numbers::magnitude;
 use crate::tokens::{Token, Word};
 
+// A name has at most so many bytes.
+const LONGEST_NAME: usize = 16;
+
 // The byte at `i`, and 0 past the end.
 fn byte_at(rest: &[u8], i: usize) -> u8
     ensures { result ≡ slice_index rest.now i }
@@ -140,17 +143,17 @@ impl<'a> Cursor<'a> {
     {
         let rest = self.rest();
         let n = name_len(rest);
-        if n > 16 {
+        if n > LONGEST_NAME {
             return Err(Fault::LongName(self.at));
         }
         let word = Word {
             text: &rest[..n],
             place: self.at,
         };
-        match keyword_of(word.text) {
-            Some(k) => Ok(Token::Key(k, word)),
-            None => Ok(Token::Name(word)),
-        }
+        Ok(match keyword_of(word.text) {
+            Some(k) => Token::Key(k, word),
+            None => Token::Name(word),
+        })
     }
 
     // The number that begins here, its sign taking `sign` bytes.
