@@ -9,7 +9,7 @@ use crate::forms::ExpStart;
 use crate::next::Next;
 use crate::reader::Reader;
 use crate::starts::begun;
-use crate::tree::{ExpNode, Node, Operator};
+use crate::tree::{ExpNode, Operator};
 use words::{Keyword, Mark};
 
 impl Reader<'_, '_> {
@@ -38,18 +38,9 @@ impl Reader<'_, '_> {
         ensures { Gives (exp_m at levels start) result self.old self.new }
     {
         match start {
-            ExpStart::Number(value) => self.place(
-                Node::Expression(ExpNode::Number { at, value }),
-                at,
-            ),
-            ExpStart::Boolean(value) => self.place(
-                Node::Expression(ExpNode::Boolean { at, value }),
-                at,
-            ),
-            ExpStart::Variable(name) => self.place(
-                Node::Expression(ExpNode::Variable { name }),
-                at,
-            ),
+            ExpStart::Number(value) => self.place(ExpNode::Number { at, value }, at),
+            ExpStart::Boolean(value) => self.place(ExpNode::Boolean { at, value }, at),
+            ExpStart::Variable(name) => self.place(ExpNode::Variable { name }, at),
             ExpStart::From => self.qualified(at),
             ExpStart::IsZero => self.is_zero(at, levels),
             ExpStart::Apply => self.application(at, levels),
@@ -65,7 +56,7 @@ impl Reader<'_, '_> {
         ensures { Gives (qualified_m at) result self.old self.new }
     {
         let (module, name) = self.taken()?;
-        self.place(Node::Expression(ExpNode::From { at, module, name }), at)
+        self.place(ExpNode::From { at, module, name }, at)
     }
 
     #[cycle(expressions)]
@@ -75,7 +66,7 @@ impl Reader<'_, '_> {
         self.expect(Mark::Open)?;
         let part = self.expression(levels)?;
         self.expect(Mark::Shut)?;
-        self.place(Node::Expression(ExpNode::IsZero { at, part }), at)
+        self.place(ExpNode::IsZero { at, part }, at)
     }
 
     #[cycle(expressions)]
@@ -86,11 +77,11 @@ impl Reader<'_, '_> {
         let operand = self.expression(levels)?;
         self.expect(Mark::Shut)?;
         self.place(
-            Node::Expression(ExpNode::Apply {
+            ExpNode::Apply {
                 at,
                 operator,
                 operand,
-            }),
+            },
             at,
         )
     }
@@ -102,12 +93,12 @@ impl Reader<'_, '_> {
         let (parameter, of) = self.parameter(levels)?;
         let body = self.expression(levels)?;
         self.place(
-            Node::Expression(ExpNode::Proc {
+            ExpNode::Proc {
                 at,
                 parameter,
                 of,
                 body,
-            }),
+            },
             at,
         )
     }
@@ -131,12 +122,12 @@ impl Reader<'_, '_> {
         let name = self.name()?;
         let (bound, body) = self.bound(levels)?;
         self.place(
-            Node::Expression(ExpNode::Let {
+            ExpNode::Let {
                 at,
                 name,
                 bound,
                 body,
-            }),
+            },
             at,
         )
     }
@@ -151,12 +142,12 @@ impl Reader<'_, '_> {
         self.expect(Keyword::Else)?;
         let alternative = self.expression(levels)?;
         self.place(
-            Node::Expression(ExpNode::If {
+            ExpNode::If {
                 at,
                 test,
                 consequent,
                 alternative,
-            }),
+            },
             at,
         )
     }
@@ -170,7 +161,7 @@ impl Reader<'_, '_> {
         let (parameter, of) = self.parameter(levels)?;
         let (body, rest) = self.bound(levels)?;
         self.place(
-            Node::Expression(ExpNode::Letrec {
+            ExpNode::Letrec {
                 at,
                 result,
                 name,
@@ -178,7 +169,7 @@ impl Reader<'_, '_> {
                 of,
                 body,
                 rest,
-            }),
+            },
             at,
         )
     }
@@ -202,12 +193,12 @@ impl Reader<'_, '_> {
     {
         let (left, right) = self.pair(levels)?;
         self.place(
-            Node::Expression(ExpNode::Binary {
+            ExpNode::Binary {
                 at,
                 operator,
                 left,
                 right,
-            }),
+            },
             at,
         )
     }

@@ -11,7 +11,7 @@ use crate::forms::{DeclarationStart, DefinitionStart};
 use crate::next::Next;
 use crate::reader::{LEVELS, Reader};
 use crate::starts::begun;
-use crate::tree::{Item, Node};
+use crate::tree::Item;
 use language::spans::Span;
 use words::{Keyword, Mark};
 
@@ -55,7 +55,7 @@ impl Reader<'_, '_> {
         ensures { Gives (opaque_m at) result self.old self.new }
     {
         let name = self.name()?;
-        self.place(Node::Item(Item::Opaque { at, name }), at)
+        self.place(Item::Opaque { at, name }, at)
     }
 
     // A type's name and what it is.
@@ -72,14 +72,14 @@ impl Reader<'_, '_> {
         ensures { Gives (transparent_m at 48) result self.old self.new }
     {
         let (name, is) = self.equated()?;
-        self.place(Node::Item(Item::Transparent { at, name, is }), at)
+        self.place(Item::Transparent { at, name, is }, at)
     }
 
     fn type_is(&mut self, at: u16) -> Result<u16, Fault>
         ensures { Gives (type_is_m at 48) result self.old self.new }
     {
         let (name, is) = self.equated()?;
-        self.place(Node::Item(Item::TypeIs { at, name, is }), at)
+        self.place(Item::TypeIs { at, name, is }, at)
     }
 
     // Not one function with `value_is`: the mark, the part and the node all differ.
@@ -88,7 +88,7 @@ impl Reader<'_, '_> {
     {
         self.expect(Mark::Colon)?;
         let of = self.ty(LEVELS)?;
-        self.place(Node::Item(Item::Declared { name, of }), at)
+        self.place(Item::Declared { name, of }, at)
     }
 
     fn value_is(&mut self, name: Span, at: u16) -> Result<u16, Fault>
@@ -96,7 +96,7 @@ impl Reader<'_, '_> {
     {
         self.expect(Mark::Equal)?;
         let is = self.expression(LEVELS)?;
-        self.place(Node::Item(Item::ValueIs { name, is }), at)
+        self.place(Item::ValueIs { name, is }, at)
     }
 
     // Declarations or definitions up to and with a `]`.
@@ -128,6 +128,6 @@ impl Reader<'_, '_> {
         let name = self.name()?;
         self.headed::<DeclarationStart>(Keyword::Interface)?;
         self.headed::<DefinitionStart>(Keyword::Body)?;
-        self.place(Node::Item(Item::Module { at, name }), at)
+        self.place(Item::Module { at, name }, at)
     }
 }

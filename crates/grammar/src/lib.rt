@@ -8,6 +8,7 @@ mod forms;
 mod items;
 mod modules;
 mod next;
+mod placed;
 pub mod read;
 mod reader;
 pub mod sheet;

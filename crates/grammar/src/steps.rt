@@ -6,8 +6,8 @@ ghost use Rattle.grammar.specs.Laying.{word_m, name_m, place_m};
 use crate::expected::Expected;
 use crate::faults::Fault;
 use crate::next::Next;
+use crate::placed::Placed;
 use crate::reader::{PLACES, Reader};
-use crate::tree::Node;
 use language::spans::Span;
 use words::{Token, figure};
 
@@ -71,15 +71,15 @@ impl<'t> Reader<'t, '_> {
         }
     }
 
-    // Puts a node into the next free place; `at` is the place of its part in the text.
-    pub fn place(&mut self, node: Node, at: u16) -> Result<u16, Fault>
-        ensures { Gives (place_m node at) result self.old self.new }
+    // Puts a part into the next free place; `at` is where it stands in the text.
+    pub fn place<P: Placed>(&mut self, part: P, at: u16) -> Result<u16, Fault>
+        ensures { Gives (place_m (P.as_node part) at) result self.old self.new }
     {
         let used = self.used;
         if used >= self.tree.len() || used >= PLACES {
             return Err(Fault::TreeFull(usize::from(at)));
         }
-        self.tree[used] = node;
+        self.tree[used] = part.node();
         self.used = used + 1;
         Ok(used as u16)
     }

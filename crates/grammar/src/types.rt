@@ -9,7 +9,7 @@ use crate::forms::TypeStart;
 use crate::next::Next;
 use crate::reader::Reader;
 use crate::starts::begun;
-use crate::tree::{Node, TypeNode};
+use crate::tree::TypeNode;
 use language::spans::Span;
 use words::{Keyword, Mark};
 
@@ -30,9 +30,9 @@ impl Reader<'_, '_> {
         ensures { Gives (type_m at levels start) result self.old self.new }
     {
         match start {
-            TypeStart::Int => self.place(Node::Type(TypeNode::Int { at }), at),
-            TypeStart::Bool => self.place(Node::Type(TypeNode::Bool { at }), at),
-            TypeStart::Named(name) => self.place(Node::Type(TypeNode::Named { name }), at),
+            TypeStart::Int => self.place(TypeNode::Int { at }, at),
+            TypeStart::Bool => self.place(TypeNode::Bool { at }, at),
+            TypeStart::Named(name) => self.place(TypeNode::Named { name }, at),
             TypeStart::From => self.qualified_type(at),
             TypeStart::Arrow => self.arrow(at, levels),
         }
@@ -52,7 +52,7 @@ impl Reader<'_, '_> {
         ensures { Gives (qualified_type_m at) result self.old self.new }
     {
         let (module, name) = self.taken()?;
-        self.place(Node::Type(TypeNode::From { at, module, name }), at)
+        self.place(TypeNode::From { at, module, name }, at)
     }
 
     #[cycle(types)]
@@ -63,7 +63,7 @@ impl Reader<'_, '_> {
         self.expect(Mark::Arrow)?;
         let to = self.ty(levels)?;
         self.expect(Mark::Shut)?;
-        self.place(Node::Type(TypeNode::Arrow { at, from, to }), at)
+        self.place(TypeNode::Arrow { at, from, to }, at)
     }
 
     // A parameter with its type, in parentheses.
