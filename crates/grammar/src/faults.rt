@@ -7,7 +7,7 @@ use words::Fault as WordFault;
 
 // Why a text is refused, with the place: an unlawful word, a word or an end of the text with which no sheet goes on, a 49th level, a 33rd
 // module, a part for which the tree has no place.
-#[derive(Clone, Copy)]
+#[derive(Clone, Copy, Debug, PartialEq, Eq)]
 pub enum Fault {
     Word(WordFault),
     Unexpected(usize),

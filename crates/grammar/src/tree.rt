@@ -1,6 +1,6 @@
 use language::spans::Span;
 
-#[derive(Clone, Copy)]
+#[derive(Clone, Copy, Debug, PartialEq, Eq)]
 pub enum Operator {
     Plus,
     Minus,
@@ -10,7 +10,7 @@ pub enum Operator {
 }
 
 // A written type. Its parts are named by their places in the table; `at` is its first byte in the text.
-#[derive(Clone, Copy)]
+#[derive(Clone, Copy, Debug, PartialEq, Eq)]
 pub enum TypeNode {
     Int { at: u16 },
     Bool { at: u16 },
@@ -20,7 +20,7 @@ pub enum TypeNode {
 }
 
 // An expression.
-#[derive(Clone, Copy)]
+#[derive(Clone, Copy, Debug, PartialEq, Eq)]
 pub enum ExpNode {
     Number {
         at: u16,
@@ -83,7 +83,7 @@ pub enum ExpNode {
 }
 
 // A declaration, a definition, or the end of a module. Its parts and the module's items stand before it.
-#[derive(Clone, Copy)]
+#[derive(Clone, Copy, Debug, PartialEq, Eq)]
 pub enum Item {
     Opaque { at: u16, name: Span },
     Transparent { at: u16, name: Span, is: u16 },
@@ -94,7 +94,7 @@ pub enum Item {
 }
 
 // A place of the tree table.
-#[derive(Clone, Copy)]
+#[derive(Clone, Copy, Debug, PartialEq, Eq)]
 pub enum Node {
     Blank,
     Type(TypeNode),
