@@ -46,6 +46,7 @@ pub fn check<P: Pantry>(
     ensures exchanged { Exchanged (stock_of (P.meaning pantry.now)) (places types.old) (places slots.old)
         sheet.entry.text.now result types.new }
 {
+    // A table of a fixed length, and not a Vec: nothing below the results is on the heap.
     let mut entries = [BLANK_ENTRY; MOST_ENTRIES];
     let count = copy_entries(pantry, &mut entries);
     check_entries(sheet, &entries[0..count], types, slots)

@@ -122,7 +122,8 @@ pub fn all_modules(
     Ok(at)
 }
 
-// The closing expression, behind the modules of the interfaces: the number of its type.
+// The closing expression, behind the modules of the interfaces: the number of its type. It lends the tables on by itself, as a module does:
+// a helper that took the check as a closure would have to promise the tables that it hands over and all that comes back.
 pub fn closing(
     tables: &mut Tables,
     interfaces: &[Interface],

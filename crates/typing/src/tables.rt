@@ -102,6 +102,7 @@ fn entry_in(entries: &[Known], name: &[u8]) -> Option<u16>
 fn put<T: Copy>(table: &mut [T], k: u16, item: T) -> Option<u16>
     ensures { MatchOption result ((min (length table.old) 65535 ≤ k) × (table.new ≡ table.old)) (λ next. (k < min (length table.old) 65535) × (next ≡ k + 1) × (table.new ≡ slice_set table.old k item)) }
 {
+    // By index: the proof of a write through `get_mut` did not close, neither behind `?` nor behind `if let`.
     let next = k.checked_add(1)?;
     if usize::from(k) >= table.len() {
         return None;
