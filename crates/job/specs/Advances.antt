@@ -5,6 +5,7 @@ use Rattle.language.specs.Pantry.{Pantry}
 use Rattle.language.specs.Job as language
 use Rattle.grammar.specs.declared.sheet.ReadSheet.{ReadSheet}
 use Rattle.job.specs.declared.course.Course.{Course}
+use Rattle.job.specs.declared.machine.Machine.{Machine}
 use Rattle.job.specs.declared.registers.Registers.{Registers}
 use Rattle.job.specs.declared.tables.Cell.{Cell}
 use Rattle.job.specs.declared.tables.Frame.{Frame}
@@ -17,6 +18,10 @@ pub record State : Type 0 where
   pub course : Course
   pub cells : List Cell
   pub frames : List Frame
+
+-- those of a machine
+abbrev pub lent_to : Machine → State
+lent_to m = record { course = m.course.now; cells = m.cells.now; frames = m.frames.now }
 
 -- on this sheet, from the registers g and n steps, an advance by the allowance a comes to the progress r
 abbrev pub Advances : Pantry → ReadSheet → State → State → Registers → ℕ → ℕ → Progress → Type 0

@@ -45,7 +45,7 @@ impl<'r> Course<'r> {
         }
     }
 
-    // The next task, if one is left.
+    // The next task, if one is left. By place and not by iterator: the place is kept from call to call.
     fn next_task(&mut self) -> Option<Task>
         ensures { Takes self.old self.new result }
     {

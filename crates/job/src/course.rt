@@ -12,6 +12,7 @@ pub struct ModuleScope {
     pub scope: u16,
 }
 
+// By hand, since a span has no default.
 impl Default for ModuleScope {
     fn default() -> ModuleScope {
         ModuleScope {

@@ -2,7 +2,7 @@ ghost use Rattle.std.specs.Prelude.{◌≡◌, ◌≤◌, min, length};
 ghost use Rattle.language.specs.Job.{step_limit};
 ghost use Rattle.language.specs.Step.{step as step_of};
 ghost use Rattle.job.specs.Performs.{Performs, Same, Spared};
-ghost use Rattle.job.specs.Advances.{Advances};
+ghost use Rattle.job.specs.Advances.{Advances, lent_to};
 
 use crate::answers::{Progress, Status};
 use crate::course::Course;
@@ -26,16 +26,17 @@ impl Machine<'_, '_, '_> {
         ensures same { Same self.old self.new }
         ensures spared { Spared self.old self.new result }
     {
-        let action = self.rule_for(pantry).ok_or(Reason::NoRule)?;
-        self.perform(pantry, action)
+        // Not by `ok_or` and `?`: they copy the action twice, and a step takes twice as long.
+        match self.rule_for(pantry) {
+            Some(action) => self.perform(pantry, action),
+            None => Err(Reason::NoRule),
+        }
     }
 
     // Goes on for at most so many steps.
     fn stepping<P: Pantry>(&mut self, made: u32, pantry: &P, allowance: u32) -> Progress
         requires { made ≤ step_limit }
-        ensures is { Advances (P.meaning pantry.now) self.old.sheet
-            (record { course = self.old.course.now; cells = self.old.cells.now; frames = self.old.frames.now })
-            (record { course = self.new.course.now; cells = self.new.cells.now; frames = self.new.frames.now })
+        ensures is { Advances (P.meaning pantry.now) self.old.sheet (lent_to self.old) (lent_to self.new)
             self.old.registers made allowance result }
         ensures same { Same self.old self.new }
     {

@@ -1,4 +1,3 @@
-use Rattle.std.proofs.Common.{◌≡◌, length}
 use Rattle.job.specs.Jobs.{plan_for}
 use Rattle.job.proofs.Within.{behind, back_length}
 use Rattle.job.proofs.Standing.{advanced-is, adds}
