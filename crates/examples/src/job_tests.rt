@@ -34,7 +34,7 @@ fn run_sheet<P: Pantry>(
         .ok_or("not passed")?;
     let mut entries = [BLANK_ENTRY; MOST_ENTRIES];
     let count = copy_entries(pantry, &mut entries);
-    let pass = pass(sheet, &entries[0..count], &types, number);
+    let pass = pass(sheet, &entries[..count], &types, number);
     let mut job = Job::open(pass, cells, frames);
     let opened = job.status();
     let first = job.advance(cells, frames, pantry, allowances.0);

@@ -81,10 +81,10 @@ fn value<S: Sink>(sink: &mut S, closing: ClosingType, value: Value) -> Result<()
 fn entry_name<P: Pantry>(pantry: &P, i: u8) -> &[u8]
     ensures { result.now ≡ name_of (get_elem? (stock_of (P.meaning pantry.now)) i) }
 {
-    match pantry.entry(usize::from(i)) {
-        Some(entry) => entry.name,
-        None => b"",
-    }
+    pantry
+        .entry(usize::from(i))
+        .map(|entry| entry.name)
+        .unwrap_or(b"")
 }
 
 // Tells why a job stopped: the number, and where the pantry has no answer the entry's name and the argument.

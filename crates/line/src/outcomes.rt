@@ -43,7 +43,7 @@ pub struct Refusal {
     pub layer: Layer,
 }
 
-// What a line tells.
+// What a line tells: a job's answer, with a procedure's parts left out, or a refusal.
 #[derive(Clone, Copy)]
 pub enum Outcome {
     Done { value: Value, steps: u32 },

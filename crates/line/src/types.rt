@@ -18,7 +18,7 @@ pub struct ClosingType<'t, 'y> {
 }
 
 impl ClosingType<'_, '_> {
-    // The entry of the type; a place that is not there is blank.
+    // The entry of the type. A place that is not there is blank, and so is the one behind the last that counts.
     pub(crate) fn entry(self) -> TypeEntry
         ensures { result ≡ entry_told self.entry.types.now self.entry.number }
     {

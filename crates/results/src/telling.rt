@@ -38,7 +38,7 @@ fn run_sheet<P: Pantry>(
 {
     let mut entries = [BLANK_ENTRY; MOST_ENTRIES];
     let count = copy_entries(pantry, &mut entries);
-    let pass = pass(sheet, &entries[0..count], types, number);
+    let pass = pass(sheet, &entries[..count], types, number);
     let Store {
         cells,
         frames,

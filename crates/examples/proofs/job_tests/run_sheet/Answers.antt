@@ -1,4 +1,4 @@
-use Rattle.std.proofs.Common.{◌≡◌, ℕ, ◌-◌, ◌≤◌, true, List, length, take, Ok, Err, Some, Result, sym, ap, ◌∙◌, subst, arith}
+use Rattle.std.proofs.Common.{◌≡◌, ℕ, ◌≤◌, true, List, length, take, Ok, Err, Some, Result, sym, ◌∙◌, subst, arith}
 use Rattle.std.specs.Result.{result_ok}
 use Rattle.language.specs.Pantry.{Stock, stock_of}
 use Rattle.rules.specs.declared.faults.CheckFault.{CheckFault}
@@ -20,9 +20,7 @@ pass-pass-requires g c =
     let few : length p ≤ 64 = (g.P.Pantry.lawful c.args.pantry.now).few in
     let n = c.copy_entries-count.result in
     let all : length p ≤ n = omega (arith, few, c.copy_entries-count.ensures.count) in
-    let z : n - 0 ≡ n = omega arith in
-    let stock : stock_in (take (n - 0) c.copy_entries-count.new.table) ≡ stock_of p =
-    ap (λ (k : ℕ). stock_in (take k c.copy_entries-count.new.table)) z ∙ all-copied p n _ all c.copy_entries-count.ensures.copied in
+    let stock : stock_in (take n c.copy_entries-count.new.table) ≡ stock_of p = all-copied p n _ all c.copy_entries-count.ensures.copied in
     let passes = passed (stock_of p) c.sheet-sheet.result.text.now c.check.new.types c.check.result c.in_ok-number.number
     (sym c.ok-2.ensures.value ∙ c.in_ok-number.ensures.ok_part) c.check.ensures.promised in
     subst (λ (s : Stock). passes_with s c.sheet-sheet.result.text.now c.check.new.types c.in_ok-number.number ≡ true) (sym stock) passes

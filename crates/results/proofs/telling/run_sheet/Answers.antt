@@ -1,4 +1,4 @@
-use Rattle.std.proofs.Common.{◌≡◌, ℕ, ◌-◌, ◌≤◌, true, length, take, sym, ap, ◌∙◌, subst, arith}
+use Rattle.std.proofs.Common.{◌≡◌, ◌≤◌, true, length, take, sym, ap, ◌∙◌, subst, arith}
 use Rattle.language.specs.Pantry.{Stock, stock_of}
 use Rattle.language.specs.Tree.{Plan}
 use Rattle.checker.specs.Stocks.{stock_in}
@@ -15,9 +15,7 @@ pass-pass-requires g c =
     let few : length p ≤ 64 = (g.P.Pantry.lawful c.args.pantry.now).few in
     let n = c.copy_entries-count.result in
     let all : length p ≤ n = omega (arith, few, c.copy_entries-count.ensures.count) in
-    let z : n - 0 ≡ n = omega arith in
-    let stock : stock_in (take (n - 0) c.copy_entries-count.new.table) ≡ stock_of p =
-    ap (λ (k : ℕ). stock_in (take k c.copy_entries-count.new.table)) z ∙ all-copied p n _ all c.copy_entries-count.ensures.copied in
+    let stock : stock_in (take n c.copy_entries-count.new.table) ≡ stock_of p = all-copied p n _ all c.copy_entries-count.ensures.copied in
     subst (λ (s : Stock). passes_with s c.args.sheet.text.now c.args.types.now c.args.number ≡ true) (sym stock) c.requires
 
 pub returns : goal.returns
