@@ -74,9 +74,9 @@ fn a_refusal_leaves_blank_tables(rt: HostRuntime) -> Result<(), test::Fail> {
         &mut types,
         &mut slots,
     );
-    assert!(rt; matches!(answer, Err(CheckFault::Unwanted(17))));
-    assert!(rt; matches!(types[0], TypeEntry::Blank) && matches!(types[5], TypeEntry::Blank));
-    assert!(rt; matches!(slots[0], Slot::Blank) && matches!(slots[1], Slot::Blank));
+    assert_eq!(rt; answer, Err(CheckFault::Unwanted(17)));
+    assert_eq!(rt; types, [TypeEntry::Blank; 6]);
+    assert_eq!(rt; slots, [Slot::Blank; 2]);
     Ok(())
 }
 
@@ -93,10 +93,10 @@ fn a_pass_leaves_the_types_and_the_declarations(rt: HostRuntime) -> Result<(), t
         &mut types,
         &mut slots,
     );
-    assert!(rt; matches!(answer, Ok(0)));
-    assert!(rt;
-        matches!(types[3], TypeEntry::Arrow { .. }) && matches!(types[4], TypeEntry::Blank)
-    );
-    assert!(rt; matches!(slots[0], Slot::OfValue(_)) && matches!(slots[1], Slot::Blank));
+    assert_eq!(rt; answer, Ok(0));
+    assert!(rt; matches!(types[3], TypeEntry::Arrow { .. }));
+    assert_eq!(rt; types[4], TypeEntry::Blank);
+    assert!(rt; matches!(slots[0], Slot::OfValue(_)));
+    assert_eq!(rt; slots[1], Slot::Blank);
     Ok(())
 }

@@ -53,25 +53,21 @@ fn goes_on_where_it_stood(rt: HostRuntime) -> Result<(), test::Fail> {
     let mut cells = [Cell::Blank; 4];
     let mut frames = [Frame::Blank; 4];
     let sum = run_sheet(b"+(1,2)", &no_items(), &mut cells, &mut frames, (4, 100))?;
-    assert!(rt; matches!(sum.opened, Answer::Going { steps: 0 }));
-    assert!(rt; matches!(sum.first, Answer::Going { steps: 4 }));
-    assert!(rt;
-        matches!(
-            sum.second,
-            Answer::Done {
-                value: Value::Integer(3),
-                steps: 6
-            }
-        )
+    assert_eq!(rt; sum.opened, Answer::Going { steps: 0 });
+    assert_eq!(rt; sum.first, Answer::Going { steps: 4 });
+    assert_eq!(rt;
+        sum.second,
+        Answer::Done {
+            value: Value::Integer(3),
+            steps: 6
+        }
     );
-    assert!(rt;
-        matches!(
-            sum.last,
-            Answer::Done {
-                value: Value::Integer(3),
-                steps: 6
-            }
-        )
+    assert_eq!(rt;
+        sum.last,
+        Answer::Done {
+            value: Value::Integer(3),
+            steps: 6
+        }
     );
     Ok(())
 }
@@ -82,15 +78,13 @@ fn runs_a_module_first(rt: HostRuntime) -> Result<(), test::Fail> {
     let mut cells = [Cell::Blank; 4];
     let mut frames = [Frame::Blank; 4];
     let module = run_sheet(text, &no_items(), &mut cells, &mut frames, (5, 2))?;
-    assert!(rt; matches!(module.first, Answer::Going { steps: 5 }));
-    assert!(rt;
-        matches!(
-            module.second,
-            Answer::Done {
-                value: Value::Integer(1),
-                steps: 7
-            }
-        )
+    assert_eq!(rt; module.first, Answer::Going { steps: 5 });
+    assert_eq!(rt;
+        module.second,
+        Answer::Done {
+            value: Value::Integer(1),
+            steps: 7
+        }
     );
     Ok(())
 }
@@ -100,24 +94,20 @@ fn a_stop_is_no_step(rt: HostRuntime) -> Result<(), test::Fail> {
     let mut cells = [Cell::Blank; 4];
     let mut frames = [Frame::Blank; 4];
     let quotient = run_sheet(b"/(7,0)", &no_items(), &mut cells, &mut frames, (4, 1))?;
-    assert!(rt; matches!(quotient.first, Answer::Going { steps: 4 }));
-    assert!(rt;
-        matches!(
-            quotient.second,
-            Answer::Stop {
-                reason: Reason::DivideByZero,
-                steps: 4
-            }
-        )
+    assert_eq!(rt; quotient.first, Answer::Going { steps: 4 });
+    assert_eq!(rt;
+        quotient.second,
+        Answer::Stop {
+            reason: Reason::DivideByZero,
+            steps: 4
+        }
     );
-    assert!(rt;
-        matches!(
-            quotient.last,
-            Answer::Stop {
-                reason: Reason::DivideByZero,
-                steps: 4
-            }
-        )
+    assert_eq!(rt;
+        quotient.last,
+        Answer::Stop {
+            reason: Reason::DivideByZero,
+            steps: 4
+        }
     );
     Ok(())
 }
@@ -126,25 +116,21 @@ fn a_stop_is_no_step(rt: HostRuntime) -> Result<(), test::Fail> {
 fn stops_at_a_full_table(rt: HostRuntime) -> Result<(), test::Fail> {
     let mut frames = [Frame::Blank; 4];
     let name = run_sheet(b"let x = 1 in x", &no_items(), &mut [], &mut frames, (9, 9))?;
-    assert!(rt;
-        matches!(
-            name.last,
-            Answer::Stop {
-                reason: Reason::NoCell,
-                steps: 2
-            }
-        )
+    assert_eq!(rt;
+        name.last,
+        Answer::Stop {
+            reason: Reason::NoCell,
+            steps: 2
+        }
     );
     let mut cells = [Cell::Blank; 4];
     let sum = run_sheet(b"+(1,2)", &no_items(), &mut cells, &mut [], (9, 9))?;
-    assert!(rt;
-        matches!(
-            sum.last,
-            Answer::Stop {
-                reason: Reason::NoFrame,
-                steps: 0
-            }
-        )
+    assert_eq!(rt;
+        sum.last,
+        Answer::Stop {
+            reason: Reason::NoFrame,
+            steps: 0
+        }
     );
     Ok(())
 }

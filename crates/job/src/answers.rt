@@ -14,7 +14,7 @@ pub enum Status {
 }
 
 // What a call answers, always with the total of steps.
-#[derive(Clone, Copy)]
+#[derive(Clone, Copy, Debug, PartialEq, Eq)]
 pub enum Answer {
     Going { steps: u32 },
     Done { value: Value, steps: u32 },

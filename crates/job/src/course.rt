@@ -6,20 +6,10 @@ use grammar::tree::Node;
 use language::spans::Span;
 
 // A module whose body has ended, and the scope of that body.
-#[derive(Clone, Copy)]
+#[derive(Clone, Copy, Default)]
 pub struct ModuleScope {
     pub name: Span,
     pub scope: u16,
-}
-
-// By hand, since a span has no default.
-impl Default for ModuleScope {
-    fn default() -> ModuleScope {
-        ModuleScope {
-            name: Span { place: 0, len: 0 },
-            scope: 0,
-        }
-    }
 }
 
 // How far a job has come through the tree: the next place to look for a definition, and the modules whose bodies have ended. There is

@@ -6,7 +6,7 @@ ghost use Rattle.job.specs.declared.reasons.Reason.TheVariants.{NoAnswer as NoAn
 use pantry::faults::NoAnswer;
 
 // Why a job stops.
-#[derive(Clone, Copy)]
+#[derive(Clone, Copy, Debug, PartialEq, Eq)]
 pub enum Reason {
     NoCell,
     NoFrame,

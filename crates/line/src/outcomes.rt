@@ -44,7 +44,7 @@ pub struct Refusal {
 }
 
 // What a line tells: a job's answer, with a procedure's parts left out, or a refusal.
-#[derive(Clone, Copy)]
+#[derive(Clone, Copy, Debug, PartialEq, Eq)]
 pub enum Outcome {
     Done { value: Value, steps: u32 },
     Going { steps: u32 },
