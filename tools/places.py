@@ -116,7 +116,7 @@ def point_1(sources, all_functions):
     for f in all_functions:
         if any(re.search(r"\bbool$", p) for p in f.parameters):
             yield f.at() + ": a flag among the parameters"
-        if re.search(r"\(0, 0\)", f.body):
+        if re.search(r"=> \(0, 0\)", f.body):
             yield f.at() + ": zeros for nothing"
         if f.result in ("u8", "usize", "u16", "u32") and f.body.strip() == "0":
             yield f.at() + ": a number that means nothing"
@@ -124,7 +124,7 @@ def point_1(sources, all_functions):
                                r"None => unreachable", r"Some\(\w+\) => Err\(", r"None => Ok\(", r"None => (true|false),", r"\w+ as u8\b(?!\))\s*$"])
     for shown, path in sources:
         text = plain(path.read_text())
-        for m in re.finditer(r"else \{\s*return (Err\([^;]*\)|None);\s*\}", text):
+        for m in re.finditer(r"let (Some|Ok)\((?:[^=]|==)*= [^;]*? else \{\s*return (Err\([^;]*\)|None);\s*\}", text):
             yield f"{shown}:{text.count(chr(10), 0, m.start()) + 1} {' '.join(m.group().split())[:90]}"
 
 
@@ -158,7 +158,7 @@ def point_2(sources, all_functions):
 
 def point_3(sources, all_functions):
     """Loops by index."""
-    yield from lines(sources, [r"\bfor \w+ in [\w.()]+\.\.", r"\bwhile (?!let\b)", r"^\s*\w+ \+= 1[;,]?$|=> \w+ \+= 1,", r"\bfor _ in [\w.()]+\.\."])
+    yield from lines(sources, [r"\bfor [a-z]\w* in [\w.()]+\.\.", r"\bwhile (?!let\b)", r"^\s*\w+ \+= 1[;,]?$|=> \w+ \+= 1,"])
 
 
 def point_4(sources, all_functions):
@@ -179,7 +179,7 @@ def point_4(sources, all_functions):
         if len(re.findall(r"=> \(?\d+[,)]", body)) > 2 or len(re.findall(r"=> \(\d+, ", body)) > 2:
             yield f.at() + ": a number for each case"
     yield from lines(sources, [r"pub const BLANK: ", r"const \w*BLANK\w*: "])
-    yield from lines(sources, [r"\bmatches!\("])
+    yield from lines(sources, [r"\bmatches!\((?!.* if |.*\{ \.\. \}\)+;|.*\(_\))"])
 
 
 def point_5(sources, all_functions):
@@ -217,7 +217,7 @@ def point_5(sources, all_functions):
 
 def point_6(sources, all_functions):
     """Tables beside a length, reads past the end by hand, tables told by a switch."""
-    yield from lines([s for s in sources if "tests" not in s[0]], [r"\[[\w:]+(<[^>]*>)?; \w+\]", r"\}; \d+\]", r": &'\w+ mut \[\w+\],$",
+    yield from lines([s for s in sources if "tests" not in s[0]], [r"^(?!.*\b(const|type|fn)\b).*\[[\w:]+(<[^>]*>)?; \w+\]", r"\}; \d+\]", r": &'\w+ mut \[\w+\],$",
                        r"if .*>= [\w.]+\.len\(\)", r"if \w+ < \w+\.len\(\) \{ \w+\[\w+\] \} else"])
     for f in all_functions:
         if len(re.findall(r"\b[0-9]+ => ", f.body)) > 2:

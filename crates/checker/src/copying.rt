@@ -8,6 +8,7 @@ use pantry::pantries::Pantry;
 // How many entries a pantry has at most.
 pub const MOST_ENTRIES: usize = 64;
 
+// A constant, so that a table of entries can be made of it.
 pub const BLANK_ENTRY: Entry<'static> = Entry {
     name: b"",
     kind: Kind::Figure,

@@ -1,6 +1,6 @@
 ghost use Rattle.std.specs.Prelude.{◌≡◌, ℕ, ◌+◌, ◌<◌, ◌≤◌, cond};
 ghost use Rattle.rules.specs.declared.faults.CheckFault.TheVariants.{Repeated};
-ghost use Rattle.typing.specs.Tables.{state_of, Kept, Gives, HasType, HasExp};
+ghost use Rattle.typing.specs.Tables.{state_of, Gives, HasType, HasExp};
 ghost use Rattle.checker.specs.Items.{Act, is_fresh, opaque_n, type_is_n, declared_n, value_is_n, match_opaque_n, match_n, declare_item, define_item, match_item, on_item, all_items as all_items_of, NodeHolds, AllHold, is_type, defines as defines_n, number_at, definition_n};
 
 use grammar::tree::{Item, Node};
@@ -9,6 +9,8 @@ use rules::faults::CheckFault;
 use typing::tables::Tables;
 use typing::types::{Scope, Slot};
 use words::names::same_name;
+
+// Functions and no methods below, since the tables are a type of another crate.
 
 // The levels that a type or an expression may nest.
 pub const LEVELS: u8 = 48;
@@ -33,8 +35,7 @@ pub trait Way {
         node: Node,
     ) -> Result<Self::Found, CheckFault>
         requires { NodeHolds tables.old.given node }
-        ensures kept { Kept tables.old tables.new }
-        ensures gives { Gives (on_item (act self.now tables.old.given) node found) result tables.old tables.new };
+        ensures { Gives (on_item (act self.now tables.old.given) node found) result tables.old tables.new };
 }
 
 // All items among the nodes, in order.
@@ -45,8 +46,7 @@ pub fn all_items<W: Way>(
     nodes: &[Node],
 ) -> Result<W::Found, CheckFault>
     requires { AllHold tables.old.given nodes.now }
-    ensures kept { Kept tables.old tables.new }
-    ensures gives { Gives (all_items_of (W.act way.now tables.old.given) nodes.now start) result tables.old tables.new }
+    ensures { Gives (all_items_of (W.act way.now tables.old.given) nodes.now start) result tables.old tables.new }
 {
     let mut found = start;
     for node in nodes {
@@ -74,8 +74,7 @@ fn opaque(
     m: Span,
     name: Span,
 ) -> Result<Scope, CheckFault>
-    ensures kept { Kept tables.old tables.new }
-    ensures gives { Gives (opaque_n tables.old.given at m name scope) result tables.old tables.new }
+    ensures { Gives (opaque_n tables.old.given at m name scope) result tables.old tables.new }
 {
     fresh(tables, scope, name)?;
     let a = tables.hide(at, m, name)?;
@@ -91,19 +90,17 @@ fn type_is(
     ty: u16,
 ) -> Result<Scope, CheckFault>
     requires { HasType tables.old.given 48 ty }
-    ensures kept { Kept tables.old tables.new }
-    ensures gives { Gives (type_is_n tables.old.given at name ty scope) result tables.old tables.new }
+    ensures { Gives (type_is_n tables.old.given at name ty scope) result tables.old tables.new }
 {
     fresh(tables, scope, name)?;
     let a = tables.expand(scope, ty, LEVELS)?;
     tables.enter_type(at, scope, name, a)
 }
 
-// A value name at a written type.
+// A value name at a written type. The next function types an expression instead, which asks for another fact of the tree.
 fn declared(tables: &mut Tables, scope: Scope, name: Span, ty: u16) -> Result<Scope, CheckFault>
     requires { HasType tables.old.given 48 ty }
-    ensures kept { Kept tables.old tables.new }
-    ensures gives { Gives (declared_n tables.old.given name ty scope) result tables.old tables.new }
+    ensures { Gives (declared_n tables.old.given name ty scope) result tables.old tables.new }
 {
     fresh(tables, scope, name)?;
     let a = tables.expand(scope, ty, LEVELS)?;
@@ -113,8 +110,7 @@ fn declared(tables: &mut Tables, scope: Scope, name: Span, ty: u16) -> Result<Sc
 // A value name at the type of an expression.
 fn value_is(tables: &mut Tables, scope: Scope, name: Span, body: u16) -> Result<Scope, CheckFault>
     requires { HasExp tables.old.given 48 body }
-    ensures kept { Kept tables.old tables.new }
-    ensures gives { Gives (value_is_n tables.old.given name body scope) result tables.old tables.new }
+    ensures { Gives (value_is_n tables.old.given name body scope) result tables.old tables.new }
 {
     fresh(tables, scope, name)?;
     let a = tables.type_of(scope, body, LEVELS)?;
@@ -134,6 +130,7 @@ impl Way for Declaring {
 
     #[tactic(auto, unfolding(crate::specs::Items::declare_item))]
     fn item(&self, tables: &mut Tables, scope: Scope, node: Node) -> Result<Scope, CheckFault> {
+        // A match and no table of closures: each item has parts of its own.
         match node {
             Node::Item(Item::Opaque { at, name }) => opaque(tables, scope, at, self.module, name),
             Node::Item(Item::Transparent { at, name, is }) => type_is(tables, scope, at, name, is),
@@ -190,8 +187,7 @@ impl Way for Matching {
 
 // An opaque declaration, which any type definition of its name matches.
 fn match_opaque(tables: &mut Tables, body: Scope, name: Span, from: u16) -> Result<u16, CheckFault>
-    ensures kept { Kept tables.old tables.new }
-    ensures gives { Gives (match_opaque_n tables.old.given name body from) result tables.old tables.new }
+    ensures { Gives (match_opaque_n tables.old.given name body from) result tables.old tables.new }
 {
     let found = definition(tables, Sort::Type, name, body.used, from);
     let (_, next) = found.ok_or(CheckFault::Missing(name.place))?;
@@ -208,8 +204,7 @@ fn match_type(
     from: u16,
 ) -> Result<u16, CheckFault>
     requires { HasType tables.old.given 48 ty }
-    ensures kept { Kept tables.old tables.new }
-    ensures gives { Gives (match_n tables.old.given (is_type sort) name ty body from) result tables.old tables.new }
+    ensures { Gives (match_n tables.old.given (is_type sort) name ty body from) result tables.old tables.new }
 {
     let found = definition(tables, sort, name, body.used, from);
     let (supplied, next) = found.ok_or(CheckFault::Missing(name.place))?;
@@ -226,6 +221,7 @@ fn definition(tables: &Tables, sort: Sort, name: Span, used: u16, from: u16) -> 
 {
     let text = tables.given.text;
     let wanted = spelled(text, name);
+    // By place: the place behind what is found is half of the answer.
     for k in from..used {
         let slot = *tables.slots.get(usize::from(k))?;
         if defines(text, sort, wanted, slot) {

@@ -14,8 +14,7 @@ use typing::types::{Known, TypeEntry};
 
 // The number of the type of an entry of that kind; an arrow is entered unless it is there.
 fn kind_number(tables: &mut Tables, kind: Kind) -> Result<u16, CheckFault>
-    ensures kept { Kept tables.old tables.new }
-    ensures gives { Gives (kind_n tables.old.given.text.now kind) result tables.old tables.new }
+    ensures { Gives (kind_n tables.old.given.text.now kind) result tables.old tables.new }
 {
     match kind {
         Kind::Figure => Ok(INT),
@@ -50,8 +49,7 @@ fn all_kinds<'n>(
 
 // `int` and `bool`, at the first two places of the type table.
 fn first_types(tables: &mut Tables) -> Result<(), CheckFault>
-    ensures kept { Kept tables.old tables.new }
-    ensures gives { Gives first_n result tables.old tables.new }
+    ensures { Gives first_n result tables.old tables.new }
 {
     let _ = tables.add(0, TypeEntry::Int)?;
     let _ = tables.add(0, TypeEntry::Bool)?;

@@ -1,5 +1,5 @@
 ghost use Rattle.std.specs.Prelude.{◌≡◌, ℕ, ◌+◌, ◌<◌, ◌≤◌};
-ghost use Rattle.typing.specs.Tables.{Kept, Gives};
+ghost use Rattle.typing.specs.Tables.{Gives};
 ghost use Rattle.checker.specs.Items.{AllHold, body_n, is_new, module_n};
 
 use crate::items::{Declaring, Defining, Matching, all_items};
@@ -30,8 +30,7 @@ impl Drop for Level<'_> {
 // The definitions of a body, then the matching.
 fn definitions(tables: &mut Tables, scope: &mut Scope, nodes: &[Node]) -> Result<(), CheckFault>
     requires { AllHold tables.old.given nodes.now }
-    ensures kept { Kept tables.old tables.new }
-    ensures gives { Gives (body_n tables.old.given nodes.now scope.old.used) result tables.old tables.new }
+    ensures { Gives (body_n tables.old.given nodes.now scope.old.used) result tables.old tables.new }
 {
     let first = scope.used;
     let inner = all_items(&Defining, tables, Scope::empty_at(first), nodes)?;
@@ -43,7 +42,6 @@ fn definitions(tables: &mut Tables, scope: &mut Scope, nodes: &[Node]) -> Result
 // The body of a module, behind its interface: its names leave the scope on every way out.
 fn body(tables: &mut Tables, scope: &mut Scope, nodes: &[Node]) -> Result<(), CheckFault>
     requires { AllHold tables.old.given nodes.now }
-    ensures kept { Kept tables.old tables.new }
     ensures back { scope.new ≡ scope.old }
     ensures gives { Gives (body_n tables.old.given nodes.now scope.old.used) result tables.old tables.new }
 {
@@ -62,8 +60,7 @@ fn is_new(tables: &Tables, m: Span) -> bool
 // A module: its name, its interface, which stays in scope, and its body, which does not.
 pub fn module(tables: &mut Tables, used: u16, m: Span, nodes: &[Node]) -> Result<Scope, CheckFault>
     requires { AllHold tables.old.given nodes.now }
-    ensures kept { Kept tables.old tables.new }
-    ensures gives { Gives (module_n tables.old.given m nodes.now used) result tables.old tables.new }
+    ensures { Gives (module_n tables.old.given m nodes.now used) result tables.old tables.new }
 {
     if !is_new(tables, m) {
         return Err(CheckFault::Repeated(m.place));

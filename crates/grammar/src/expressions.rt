@@ -37,6 +37,7 @@ impl Reader<'_, '_> {
     fn expression_form(&mut self, start: ExpStart, at: u16, levels: u8) -> Result<u16, Fault>
         ensures { Gives (exp_m at levels start) result self.old self.new }
     {
+        // A match and no table of closures: each form goes on with words of its own.
         match start {
             ExpStart::Number(value) => self.place(ExpNode::Number { at, value }, at),
             ExpStart::Boolean(value) => self.place(ExpNode::Boolean { at, value }, at),
@@ -52,6 +53,7 @@ impl Reader<'_, '_> {
         }
     }
 
+    // Shares `taken` with the reader of types; what is left is the node.
     fn qualified(&mut self, at: u16) -> Result<u16, Fault>
         ensures { Gives (qualified_m at) result self.old self.new }
     {

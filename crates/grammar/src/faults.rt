@@ -43,7 +43,7 @@ impl From<WordFault> for Fault {
 }
 
 impl Fault {
-    // What the refusal is known by.
+    // What the refusal is known by. By cases: one that carries a place has no number of its own.
     pub fn number(self) -> u8
         ensures { result ≡ (refusal_of self).number }
     {

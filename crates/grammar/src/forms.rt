@@ -1,7 +1,7 @@
 use crate::tree::Operator;
 use language::spans::Span;
 
-// The forms of types, by what begins them.
+// The forms of types, by what begins them. Not yet nodes: their parts are still to be read.
 #[derive(Clone, Copy)]
 pub enum TypeStart {
     Int,
@@ -11,7 +11,7 @@ pub enum TypeStart {
     Arrow,
 }
 
-// The forms of expressions, by what begins them.
+// The forms of expressions, by what begins them. Not yet nodes, like those of types.
 #[derive(Clone, Copy)]
 pub enum ExpStart {
     Number(i32),

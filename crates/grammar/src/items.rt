@@ -68,6 +68,7 @@ impl Reader<'_, '_> {
         Ok((name, is))
     }
 
+    // Shares `equated` with `type_is`; what is left is the node.
     fn transparent_type(&mut self, at: u16) -> Result<u16, Fault>
         ensures { Gives (transparent_m at 48) result self.old self.new }
     {

@@ -6,7 +6,7 @@ use crate::faults::Fault;
 use language::spans::Span;
 use words::{Keyword, Mark};
 
-// What comes next in the text.
+// What comes next in the text. Not the cursor's token: places have 16 bits, a number has its value, and the end is one of them.
 #[derive(Clone, Copy)]
 pub enum Next {
     End { at: u16 },

@@ -29,6 +29,7 @@ impl Reader<'_, '_> {
     fn type_form(&mut self, start: TypeStart, at: u16, levels: u8) -> Result<u16, Fault>
         ensures { Gives (type_m at levels start) result self.old self.new }
     {
+        // A match and no table of closures: each form goes on with words of its own.
         match start {
             TypeStart::Int => self.place(TypeNode::Int { at }, at),
             TypeStart::Bool => self.place(TypeNode::Bool { at }, at),

@@ -5,7 +5,7 @@ use crate::reasons::Reason;
 use crate::registers::Registers;
 use crate::tables::Value;
 
-// A job goes on with its registers, or has ended and keeps its end.
+// A job goes on with its registers, or has ended and keeps its end. No Result: a stop is a way to stand, which nothing hands on by `?`.
 #[derive(Clone, Copy)]
 pub enum Status {
     Running(Registers),
@@ -13,7 +13,7 @@ pub enum Status {
     Stopped(Reason),
 }
 
-// What a call answers, always with the total of steps.
+// What a call answers, always with the total of steps. No Result: a stop is an answer like the others.
 #[derive(Clone, Copy, Debug, PartialEq, Eq)]
 pub enum Answer {
     Going { steps: u32 },

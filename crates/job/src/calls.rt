@@ -83,6 +83,7 @@ impl<'t, 'r, 'y, 'e, 'n> Job<'t, 'r, 'y, 'e, 'n> {
         said(self.progress)
     }
 
+    // The tables are lent anew to each advance, so they are no part of the job.
     fn go_on<P: Pantry>(
         &mut self,
         cells: &mut [Cell],

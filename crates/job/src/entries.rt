@@ -32,6 +32,7 @@ fn taken(entry: u8, kind: Kind) -> Action
 pub(crate) fn from_entry<P: Pantry>(pantry: &P, name: &[u8]) -> Option<Action>
     ensures { Asks result (λ _ _. from_entry (entry_for (P.meaning pantry.now) name.now)) }
 {
+    // By number: a pantry has no list of its entries to go along.
     for i in 0..pantry.count() {
         let entry = pantry.entry(i)?;
         if same_name(entry.name, name) {

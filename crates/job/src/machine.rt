@@ -5,7 +5,8 @@ use crate::registers::Registers;
 use crate::tables::{Cell, Frame};
 use grammar::sheet::ReadSheet;
 
-// A job under way, on the places of the lent tables that count.
+// A job under way, on the places of the lent tables that count. What no action alters is a clause of each (`same`), since a ghost field speaks
+// of one state alone.
 #[derive(Drop)]
 pub(crate) struct Machine<'m, 't, 'r> {
     pub sheet: ReadSheet<'t, 'r>,

@@ -185,6 +185,7 @@ impl Machine<'_, '_, '_> {
         ensures same { Same self.old self.new }
         ensures spared { Spared self.old self.new result }
     {
+        // A match and no table of closures: each action has values of its own, and a closure could not be kept in a rule's answer.
         match action {
             Action::Hands { frames, what } => self.hand(frames, tried(pantry, what)?),
             Action::Binds { frames, cell, to } => self.bind(frames, cell, to)?,

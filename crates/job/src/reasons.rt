@@ -25,7 +25,7 @@ impl From<NoAnswer> for Reason {
 }
 
 impl Reason {
-    // The number that the stop goes by.
+    // The number that the stop goes by. By cases: one that carries a fault has no number of its own.
     pub fn number(self) -> u8
         ensures { result ≡ stop_number (reason_of self) }
     {

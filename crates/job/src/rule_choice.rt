@@ -274,6 +274,7 @@ impl Machine<'_, '_, '_> {
             return None;
         };
         let text = self.sheet.text;
+        // A match and no table of closures: each form has parts of its own.
         match node {
             ExpNode::Number { value, .. } => Some(handed(Value::Integer(value))),
             ExpNode::Boolean { value, .. } => Some(handed(Value::Boolean(value))),
@@ -303,6 +304,7 @@ impl Machine<'_, '_, '_> {
     pub(crate) fn rule_for<P: Pantry>(&self, pantry: &P) -> Option<Action>
         ensures { Decides (P.meaning pantry.now) self.now result (λ w s g. rule_for w s g) }
     {
+        // A match: a part and a value have rules of their own.
         match self.registers.control {
             Control::Evaluate { part, scope } => self.on_node(
                 pantry,

@@ -11,7 +11,7 @@ pub enum Value {
     Procedure,
 }
 
-// The layer that refuses.
+// The layer that refuses. What reads a text has an enum of its own two, since no other can refuse there.
 #[derive(Clone, Copy, PartialEq, Eq, Debug)]
 pub enum Layer {
     Words,
@@ -22,6 +22,7 @@ pub enum Layer {
 }
 
 impl Layer {
+    // Bytes and no Display: a line goes into a sink, which is no formatter.
     pub(crate) fn name(self) -> &'static [u8]
         ensures { result.now ≡ layer_bytes self }
     {
@@ -43,7 +44,7 @@ pub struct Refusal {
     pub layer: Layer,
 }
 
-// What a line tells: a job's answer, with a procedure's parts left out, or a refusal.
+// What a line tells: a job's answer, with a procedure's parts left out, or a refusal. No Result: the line tells each alike.
 #[derive(Clone, Copy, Debug, PartialEq, Eq)]
 pub enum Outcome {
     Done { value: Value, steps: u32 },

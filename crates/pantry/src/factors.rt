@@ -47,7 +47,7 @@ const NUTRIENTS: [Nutrient; 5] = [
     },
 ];
 
-// factor times grams, both in tenths
+// factor times grams, both in tenths; the limit lies below the type's, so it is tested
 fn kcal(factor: u32, grams: i32) -> Option<Answer>
     ensures { answered result ≡ energy factor grams }
 {

@@ -79,6 +79,7 @@ impl Pantry for Items<'_> {
         if !in_range(argument) {
             return None;
         }
+        // A match and no table of closures: only two of the three need the argument.
         match i {
             0 => self.kcal(argument),
             1 => self.allergen(argument),

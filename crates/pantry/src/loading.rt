@@ -35,6 +35,7 @@ pub fn load(file: &[u8]) -> Result<(), LoadFault>
     ensures one_list { OneList file.now }
 {
     let rows = rows(file).ok_or(LoadFault::NoItemFile)?;
+    // By a match: what is found is the fault.
     match first_unlawful(rows) {
         None => Ok(()),
         Some(k) => Err(LoadFault::BadRecord(7 + 7 * k)),

@@ -350,8 +350,9 @@ Gave (bad f) r t = r ≡ Err f
 Gave (good a x) r t = Done a x r t
 
 -- what a check gives, from s to t
-abbrev pub Gives : {A : Type 0} → (State → Out State A) → Result A CheckFault → Tables → Tables → Type 0
-Gives m r s t = Gave (m (state_of s)) r t
+pub record Gives {A : Type 0} (m : State → Out State A) (r : Result A CheckFault) (s t : Tables) : Type 0 where
+  pub kept : Kept s t
+  pub gives : Gave (m (state_of s)) r t
 
 -- the place i of the tree stands for a written type of at most so many levels
 abbrev pub HasType : Given → ℕ → ℕ → Type 0

@@ -1,6 +1,6 @@
-ghost use Rattle.std.specs.Prelude.{◌≡◌, ℕ, ◌+◌, ◌-◌, ◌<◌, ◌≤◌, true, is_some, cond};
+ghost use Rattle.std.specs.Prelude.{◌≡◌, ℕ, ◌+◌, ◌-◌, ◌<◌, ◌≤◌, ◌==◌, true, is_some, cond};
 ghost use Rattle.grammar.specs.Table.{type_of, type_at, exp_of, exp_at};
-ghost use Rattle.typing.specs.Tables.{place_of, placed, form_t, expand_n, form_e, type_n, result_n, Kept, Gives, HasType, HasExp};
+ghost use Rattle.typing.specs.Tables.{place_of, placed, form_t, expand_n, form_e, type_n, result_n, Gives, HasType, HasExp};
 ghost use Rattle.rules.specs.declared.faults.CheckFault.TheVariants.{Unwanted};
 ghost use Rattle.typing.specs.Tables.{is_zero_n, binary_n, apply_n, proc_n, let_n, conditional_n, body_n, letrec_n, binds as is_binder, form_n, HasParts};
 
@@ -24,7 +24,8 @@ impl Tables<'_, '_, '_> {
         written
     }
 
-    // The node at `i`, which stands for an expression of at most `levels` levels.
+    // The node at `i`, which stands for an expression of at most `levels` levels. Expressions stand for what they are by a definition of
+    // their own, so this is not one function with `written`.
     fn expression(&self, i: u16, levels: u8) -> ExpNode
         requires { HasExp self.now.given levels i }
         ensures deep { 0 < levels }
@@ -49,10 +50,10 @@ impl Tables<'_, '_, '_> {
     }
 
     // The expression at `i` has to have the type that is wanted of it.
-    fn want(&self, has: bool, i: u16) -> Result<(), CheckFault>
-        ensures { result ≡ cond has (Ok tt) (Err (Unwanted (placed self.now.given i))) }
+    fn want(&self, has: u16, wanted: u16, i: u16) -> Result<(), CheckFault>
+        ensures { result ≡ cond (has == wanted) (Ok tt) (Err (Unwanted (placed self.now.given i))) }
     {
-        if has {
+        if has == wanted {
             Ok(())
         } else {
             Err(CheckFault::Unwanted(self.place(i)))
@@ -62,8 +63,7 @@ impl Tables<'_, '_, '_> {
     // The number of the written type at `i`.
     pub fn expand(&mut self, scope: Scope, i: u16, levels: u8) -> Result<u16, CheckFault>
         requires { HasType self.old.given levels i }
-        ensures kept { Kept self.old self.new }
-        ensures gives { Gives (expand_n self.old.given levels i scope) result self.old self.new }
+        ensures { Gives (expand_n self.old.given levels i scope) result self.old self.new }
     {
         match self.written(i, levels) {
             TypeNode::Int { .. } => Ok(INT),
@@ -88,11 +88,10 @@ impl Tables<'_, '_, '_> {
     #[cycle(expressions)]
     fn is_zero(&mut self, scope: Scope, part: u16, levels: u8) -> Result<u16, CheckFault>
         requires { HasExp self.old.given levels part }
-        ensures kept { Kept self.old self.new }
-        ensures gives { Gives (is_zero_n self.old.given levels part scope) result self.old self.new }
+        ensures { Gives (is_zero_n self.old.given levels part scope) result self.old self.new }
     {
         let a = self.type_of(scope, part, levels)?;
-        self.want(a == INT, part)?;
+        self.want(a, INT, part)?;
         Ok(BOOL)
     }
 
@@ -108,13 +107,12 @@ impl Tables<'_, '_, '_> {
     ) -> Result<u16, CheckFault>
         requires has_exp { HasExp self.old.given levels left }
         requires has_exp_2 { HasExp self.old.given levels right }
-        ensures kept { Kept self.old self.new }
-        ensures gives { Gives (binary_n self.old.given levels op left right scope) result self.old self.new }
+        ensures { Gives (binary_n self.old.given levels op left right scope) result self.old self.new }
     {
         let a = self.type_of(scope, left, levels)?;
         let b = self.type_of(scope, right, levels)?;
-        self.want(a == INT, left)?;
-        self.want(b == INT, right)?;
+        self.want(a, INT, left)?;
+        self.want(b, INT, right)?;
         Ok(result_of(op))
     }
 
@@ -129,8 +127,7 @@ impl Tables<'_, '_, '_> {
     ) -> Result<u16, CheckFault>
         requires has_exp { HasExp self.old.given levels operator }
         requires has_exp_2 { HasExp self.old.given levels operand }
-        ensures kept { Kept self.old self.new }
-        ensures gives { Gives (apply_n self.old.given levels operator operand scope) result self.old self.new }
+        ensures { Gives (apply_n self.old.given levels operator operand scope) result self.old self.new }
     {
         let f = self.type_of(scope, operator, levels)?;
         let a = self.type_of(scope, operand, levels)?;
@@ -138,11 +135,11 @@ impl Tables<'_, '_, '_> {
             .entry(f)
             .sides()
             .ok_or(CheckFault::NoArrow(self.place(operator)))?;
-        self.want(a == from, operand)?;
+        self.want(a, from, operand)?;
         Ok(to)
     }
 
-    // `proc`.
+    // `proc`. Its parts come one by one, since a node's cases have no structs of their own.
     #[cycle(expressions)]
     fn procedure(
         &mut self,
@@ -155,8 +152,7 @@ impl Tables<'_, '_, '_> {
     ) -> Result<u16, CheckFault>
         requires has_type { HasType self.old.given levels of }
         requires has_exp { HasExp self.old.given levels body }
-        ensures kept { Kept self.old self.new }
-        ensures gives { Gives (proc_n self.old.given levels at parameter of body scope) result self.old self.new }
+        ensures { Gives (proc_n self.old.given levels at parameter of body scope) result self.old self.new }
     {
         let a = self.expand(scope, of, levels)?;
         let inner = self.enter(at, scope, parameter, a)?;
@@ -177,8 +173,7 @@ impl Tables<'_, '_, '_> {
     ) -> Result<u16, CheckFault>
         requires has_exp { HasExp self.old.given levels bound }
         requires has_exp_2 { HasExp self.old.given levels body }
-        ensures kept { Kept self.old self.new }
-        ensures gives { Gives (let_n self.old.given levels at name bound body scope) result self.old self.new }
+        ensures { Gives (let_n self.old.given levels at name bound body scope) result self.old self.new }
     {
         let a = self.type_of(scope, bound, levels)?;
         let inner = self.enter(at, scope, name, a)?;
@@ -198,14 +193,13 @@ impl Tables<'_, '_, '_> {
         requires has_exp { HasExp self.old.given levels test }
         requires has_exp_2 { HasExp self.old.given levels consequent }
         requires has_exp_3 { HasExp self.old.given levels alternative }
-        ensures kept { Kept self.old self.new }
-        ensures gives { Gives (conditional_n self.old.given levels test consequent alternative scope) result self.old self.new }
+        ensures { Gives (conditional_n self.old.given levels test consequent alternative scope) result self.old self.new }
     {
         let a = self.type_of(scope, test, levels)?;
         let b = self.type_of(scope, consequent, levels)?;
         let c = self.type_of(scope, alternative, levels)?;
-        self.want(a == BOOL, test)?;
-        self.want(c == b, alternative)?;
+        self.want(a, BOOL, test)?;
+        self.want(c, b, alternative)?;
         Ok(b)
     }
 
@@ -222,12 +216,11 @@ impl Tables<'_, '_, '_> {
         levels: u8,
     ) -> Result<(), CheckFault>
         requires { HasExp self.old.given levels body }
-        ensures kept { Kept self.old self.new }
-        ensures gives { Gives (body_n self.old.given levels at parameter a b body scope) result self.old self.new }
+        ensures { Gives (body_n self.old.given levels at parameter a b body scope) result self.old self.new }
     {
         let inner = self.enter(at, scope, parameter, a)?;
         let c = self.type_of(inner, body, levels)?;
-        self.want(c == b, body)
+        self.want(c, b, body)
     }
 
     // `letrec`.
@@ -248,8 +241,7 @@ impl Tables<'_, '_, '_> {
         requires has_type_2 { HasType self.old.given levels of }
         requires has_exp { HasExp self.old.given levels body }
         requires has_exp_2 { HasExp self.old.given levels rest }
-        ensures kept { Kept self.old self.new }
-        ensures gives { Gives (letrec_n self.old.given levels at name parameter returns of body rest scope) result self.old self.new }
+        ensures { Gives (letrec_n self.old.given levels at name parameter returns of body rest scope) result self.old self.new }
     {
         let b = self.expand(scope, returns, levels)?;
         let a = self.expand(scope, of, levels)?;
@@ -264,8 +256,7 @@ impl Tables<'_, '_, '_> {
     fn binder(&mut self, scope: Scope, form: ExpNode, levels: u8) -> Result<u16, CheckFault>
         requires holds { HasParts self.old.given levels form }
         requires binds { is_binder form ≡ true }
-        ensures kept { Kept self.old self.new }
-        ensures gives { Gives (form_n self.old.given levels form scope) result self.old self.new }
+        ensures { Gives (form_n self.old.given levels form scope) result self.old self.new }
     {
         match form {
             ExpNode::Proc {
@@ -297,8 +288,7 @@ impl Tables<'_, '_, '_> {
     #[cycle(expressions)]
     pub fn type_of(&mut self, scope: Scope, i: u16, levels: u8) -> Result<u16, CheckFault>
         requires { HasExp self.old.given levels i }
-        ensures kept { Kept self.old self.new }
-        ensures gives { Gives (type_n self.old.given levels i scope) result self.old self.new }
+        ensures { Gives (type_n self.old.given levels i scope) result self.old self.new }
     {
         let form = self.expression(i, levels);
         match form {

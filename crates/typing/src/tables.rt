@@ -2,7 +2,7 @@ ghost use Rattle.std.specs.Prelude.{◌≡◌, ℕ, ◌+◌, ◌-◌, ◌<◌, �
 ghost use Rattle.language.specs.Bindings.{spelled_in};
 ghost use Rattle.language.specs.Names.{pantry_name};
 ghost use Rattle.words.specs.Names.{same_name};
-ghost use Rattle.typing.specs.Tables.{entry_at, depth_of, sides_of, alike, found_n, adding, arrow_n, hide_n, binding, enter_n, enter_type_n, nearest_n, interface_n, types_of, values_of, declared_n, entry_n, taken_n, state_of, Kept, Gives};
+ghost use Rattle.typing.specs.Tables.{entry_at, depth_of, sides_of, alike, found_n, adding, arrow_n, hide_n, binding, enter_n, enter_type_n, nearest_n, interface_n, types_of, values_of, declared_n, entry_n, taken_n, state_of, Gives};
 
 use crate::types::{Given, Interface, Known, Scope, Slot, TypeEntry};
 use language::bindings::{Binding, nearest};
@@ -125,8 +125,7 @@ impl Tables<'_, '_, '_> {
     // One type more; `at` is the part that needs it.
     #[tactic(auto, unfolding(crate::specs::Tables::adding))]
     pub fn add(&mut self, at: u16, entry: TypeEntry) -> Result<u16, CheckFault>
-        ensures kept { Kept self.old self.new }
-        ensures gives { Gives (adding at entry) result self.old self.new }
+        ensures { Gives (adding at entry) result self.old self.new }
     {
         let n = self.count;
         self.count = put(self.types, n, entry).ok_or(CheckFault::TypesFull(at))?;
@@ -145,8 +144,7 @@ impl Tables<'_, '_, '_> {
     // The arrow between two types, which is entered unless it is there.
     #[tactic(auto, unfolding(crate::specs::Tables::arrow_n))]
     pub fn arrow(&mut self, at: u16, from: u16, to: u16) -> Result<u16, CheckFault>
-        ensures kept { Kept self.old self.new }
-        ensures gives { Gives (arrow_n self.old.given.text.now at from to) result self.old self.new }
+        ensures { Gives (arrow_n self.old.given.text.now at from to) result self.old self.new }
     {
         if let Some(k) = self.find(TypeEntry::Arrow { from, to, depth: 0 }) {
             return Ok(k);
@@ -168,8 +166,7 @@ impl Tables<'_, '_, '_> {
     // The hidden type of a module's name, which is entered unless it is there.
     #[tactic(auto, unfolding(crate::specs::Tables::hide_n))]
     pub fn hide(&mut self, at: u16, module: Span, name: Span) -> Result<u16, CheckFault>
-        ensures kept { Kept self.old self.new }
-        ensures gives { Gives (hide_n self.old.given.text.now at «module» name) result self.old self.new }
+        ensures { Gives (hide_n self.old.given.text.now at «module» name) result self.old self.new }
     {
         let entry = TypeEntry::Hidden { module, name };
         if let Some(k) = self.find(entry) {
@@ -181,8 +178,7 @@ impl Tables<'_, '_, '_> {
     // A binding at the next place of the scope table, and the link that leads to it.
     #[tactic(auto, unfolding(crate::specs::Tables::binding))]
     fn bind(&mut self, at: u16, used: u16, slot: Slot) -> Result<u16, CheckFault>
-        ensures kept { Kept self.old self.new }
-        ensures gives { Gives (binding at used slot) result self.old self.new }
+        ensures { Gives (binding at used slot) result self.old self.new }
     {
         put(self.slots, used, slot).ok_or(CheckFault::ScopeFull(at))
     }
@@ -190,8 +186,7 @@ impl Tables<'_, '_, '_> {
     // One value name more in scope. A type name has a function of its own: with a sort as a parameter each step would ask for the sort.
     #[tactic(auto, unfolding(crate::specs::Tables::enter_n))]
     pub fn enter(&mut self, at: u16, scope: Scope, name: Span, ty: u16) -> Result<Scope, CheckFault>
-        ensures kept { Kept self.old self.new }
-        ensures gives { Gives (enter_n at scope name ty) result self.old self.new }
+        ensures { Gives (enter_n at scope name ty) result self.old self.new }
     {
         let link = self.bind(
             at,
@@ -218,8 +213,7 @@ impl Tables<'_, '_, '_> {
         name: Span,
         ty: u16,
     ) -> Result<Scope, CheckFault>
-        ensures kept { Kept self.old self.new }
-        ensures gives { Gives (enter_type_n at scope name ty) result self.old self.new }
+        ensures { Gives (enter_type_n at scope name ty) result self.old self.new }
     {
         let link = self.bind(
             at,

@@ -14,6 +14,7 @@ pub enum Fault {
 }
 
 impl Fault {
+    // By cases: one that carries a place has no number of its own.
     pub fn number(self) -> usize
         ensures { result ≡ number_of self }
     {

@@ -4,7 +4,7 @@ ghost use Rattle.words.specs.Words.{size_within, figure_within};
 // A number is at most so large in size.
 const LARGEST: u64 = 2_000_000_000;
 
-// The number that digits stand for, if it is at most 2,000,000,000.
+// The number that digits stand for, if it is at most 2,000,000,000: a limit below the type's, so it is tested.
 pub(crate) fn magnitude(digits: &[u8]) -> Option<u32>
     ensures { result ≡ size_within digits.now }
 {

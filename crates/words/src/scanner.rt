@@ -126,6 +126,7 @@ impl<'a> Cursor<'a> {
         let &[b, ..] = self.rest() else {
             return Ok(None);
         };
+        // A match and no table of closures: not every class begins a word.
         let token = match class_of(b) {
             Class::Letter => self.name()?,
             Class::Digit => self.number(0)?,

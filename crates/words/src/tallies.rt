@@ -11,6 +11,7 @@ pub fn tally(text: &[u8]) -> Result<usize, Fault>
     measured(text)?;
     let mut cursor = Cursor::over(text);
     let mut count = 0;
+    // Not an iterator: a cursor stays at a fault, and would give it for ever.
     while cursor.next()?.is_some() {
         count += 1;
     }
