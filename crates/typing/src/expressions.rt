@@ -251,7 +251,7 @@ impl Tables<'_, '_, '_> {
         self.type_of(outer, rest, levels)
     }
 
-    // A form that puts a name in scope.
+    // A form that puts a name in scope. A match and no table of closures: each form has parts of its own.
     #[cycle(expressions)]
     fn binder(&mut self, scope: Scope, form: ExpNode, levels: u8) -> Result<u16, CheckFault>
         requires holds { HasParts self.old.given levels form }
@@ -284,7 +284,7 @@ impl Tables<'_, '_, '_> {
         }
     }
 
-    // The number of the type of the expression at `i`.
+    // The number of the type of the expression at `i`. A match and no table of closures, as above.
     #[cycle(expressions)]
     pub fn type_of(&mut self, scope: Scope, i: u16, levels: u8) -> Result<u16, CheckFault>
         requires { HasExp self.old.given levels i }

@@ -14,7 +14,7 @@ pub const INT: u16 = 0;
 
 pub const BOOL: u16 = 1;
 
-// The tables that a check fills, and what it reads.
+// The tables that a check fills, and what it reads. The tables are lent, so a count says how far the types go.
 #[derive(Drop)]
 pub struct Tables<'g, 't, 's> {
     pub given: Given<'g>,
