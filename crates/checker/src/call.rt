@@ -20,6 +20,7 @@ pub fn run_blank(
     types.fill(TypeEntry::Blank);
     slots.fill(Slot::Blank);
     // Tables of a fixed length, since nothing below the results is on the heap; what their last places hold is never read.
+    // Plain ones serve for the interfaces too: the loop lends the filled part to each module.
     let mut known = [Known { name: b"", of: 0 }; 64];
     let mut interfaces = [Interface::default(); 32];
     run(sheet, entries, &mut known, &mut interfaces, types, slots)

@@ -1,5 +1,5 @@
-ghost use Rattle.std.specs.Prelude.{◌≡◌, ℕ, ◌+◌, ◌<◌, ◌≤◌, cond};
-ghost use Rattle.rules.specs.declared.faults.CheckFault.TheVariants.{Repeated};
+ghost use Rattle.std.specs.Prelude.{◌≡◌, ℕ, ◌+◌, ◌<◌, ◌≤◌, cond, ok_or, Some, None};
+ghost use Rattle.rules.specs.declared.faults.CheckFault.TheVariants.{Repeated, Missing};
 ghost use Rattle.typing.specs.Tables.{state_of, Gives, HasType, HasExp};
 ghost use Rattle.checker.specs.Items.{Act, is_fresh, opaque_n, type_is_n, declared_n, value_is_n, match_opaque_n, match_n, declare_item, define_item, match_item, on_item, all_items as all_items_of, NodeHolds, AllHold, is_type, defines as defines_n, number_at, definition_n};
 
@@ -189,8 +189,7 @@ impl Way for Matching {
 fn match_opaque(tables: &mut Tables, body: Scope, name: Span, from: u16) -> Result<u16, CheckFault>
     ensures { Gives (match_opaque_n tables.old.given name body from) result tables.old tables.new }
 {
-    let found = definition(tables, Sort::Type, name, body.used, from);
-    let (_, next) = found.ok_or(CheckFault::Missing(name.place))?;
+    let (_, next) = supplied(tables, body, Sort::Type, name, from)?;
     Ok(next)
 }
 
@@ -206,13 +205,25 @@ fn match_type(
     requires { HasType tables.old.given 48 ty }
     ensures { Gives (match_n tables.old.given (is_type sort) name ty body from) result tables.old tables.new }
 {
-    let found = definition(tables, sort, name, body.used, from);
-    let (supplied, next) = found.ok_or(CheckFault::Missing(name.place))?;
+    let (b, next) = supplied(tables, body, sort, name, from)?;
     let a = tables.expand(body, ty, LEVELS)?;
-    if a != supplied {
+    if a != b {
         return Err(CheckFault::Mismatch(name.place));
     }
     Ok(next)
+}
+
+// The definition that a declaration is matched with, which has to be there: the number of its type, and the place behind it.
+fn supplied(
+    tables: &Tables,
+    body: Scope,
+    sort: Sort,
+    name: Span,
+    from: u16,
+) -> Result<(u16, u16), CheckFault>
+    ensures { result ≡ ok_or (definition_n tables.now.given.text.now (is_type sort) name body.used from (state_of tables.now)) (Missing name.place) }
+{
+    definition(tables, sort, name, body.used, from).ok_or(CheckFault::Missing(name.place))
 }
 
 // The first definition of a name among the places from `from` to `used`: the number of its type, and the place behind it.
@@ -221,33 +232,24 @@ fn definition(tables: &Tables, sort: Sort, name: Span, used: u16, from: u16) -> 
 {
     let text = tables.given.text;
     let wanted = spelled(text, name);
-    // By place: the place behind what is found is half of the answer.
+    // By place, and the place behind it is half of the answer: with `(from..used).find_map(..)` the proof did not close.
     for k in from..used {
         let slot = *tables.slots.get(usize::from(k))?;
-        if defines(text, sort, wanted, slot) {
-            return Some((number_at(slot), k + 1));
+        if let Some(number) = defined(text, sort, wanted, slot) {
+            return Some((number, k + 1));
         }
     }
     None
 }
 
-// Whether a place of the scope table defines a name, as a type or as a value.
-fn defines(text: &[u8], sort: Sort, name: &[u8], slot: Slot) -> bool
-    ensures { result ≡ defines_n text.now (is_type sort) name.now slot }
+// The number of the type that a place of the scope table gives to a name, as a type or as a value, where it defines the name.
+fn defined(text: &[u8], sort: Sort, name: &[u8], slot: Slot) -> Option<u16>
+    ensures { result ≡ cond (defines_n text.now (is_type sort) name.now slot) (Some (number_at slot)) None }
 {
     match (sort, slot) {
         (Sort::Type, Slot::OfType(b)) | (Sort::Value, Slot::OfValue(b)) => {
-            same_name(spelled(text, b.name), name)
+            same_name(spelled(text, b.name), name).then_some(b.value)
         }
-        _ => false,
-    }
-}
-
-fn number_at(slot: Slot) -> u16
-    ensures { result ≡ number_at slot }
-{
-    match slot {
-        Slot::Blank => 0,
-        Slot::OfType(b) | Slot::OfValue(b) => b.value,
+        _ => None,
     }
 }

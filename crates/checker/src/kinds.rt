@@ -37,6 +37,7 @@ fn all_kinds<'n>(
         AfterKinds tables.old.given.text.now base tp sp entries.now (enter_all tp sp (kind_types (stock_in entries.now)) ts)
         result known.new (state_of tables.new) }
 {
+    // By place: with `zip` and `iter_mut` the proof did not reach what the loop writes.
     for (i, entry) in entries.iter().enumerate() {
         let of = kind_number(tables, entry.kind)?;
         known[i] = Known {

@@ -35,7 +35,7 @@ fn ended(node: Node) -> Option<Span>
 fn module_end(tree: &[Node], start: usize) -> Option<(usize, Span)>
     ensures { result ≡ module_end start (drop start tree.now) }
 {
-    // By place: the place is half of the answer.
+    // By place, which is half of the answer: with `enumerate`, `skip` and `find_map` the proof did not close.
     for k in start..tree.len() {
         if let Some(name) = ended(tree[k]) {
             return Some((k, name));

@@ -27,7 +27,7 @@ pub enum ExpStart {
     Binary(Operator),
 }
 
-// The forms of declarations, by what begins them.
+// The forms of declarations, by what begins them. Not yet items.
 #[derive(Clone, Copy)]
 pub enum DeclarationStart {
     Opaque,
@@ -35,7 +35,7 @@ pub enum DeclarationStart {
     Value(Span),
 }
 
-// The forms of definitions, by what begins them.
+// The forms of definitions, by what begins them. Not yet items.
 #[derive(Clone, Copy)]
 pub enum DefinitionStart {
     Named,

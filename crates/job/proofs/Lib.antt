@@ -1,4 +1,3 @@
-mod Rounds
 mod Found
 mod Stocked
 mod Ways

@@ -1,5 +1,5 @@
 -- The pantry's entries by their numbers and by their names.
-use Rattle.std.proofs.Common.{◌≡◌, ℕ, zero, suc, ◌+◌, ◌<◌, ◌≤◌, Bool, true, false, cond, [], ◌∷◌, length, drop, ℤ, sym, refl, ap, ◌∙◌, add-one, arith}
+use Rattle.std.proofs.Common.{◌≡◌, ℕ, zero, suc, ◌+◌, Bool, true, false, cond, [], ◌∷◌, drop, ℤ, sym, refl, ap, ◌∙◌, add-one, arith}
 use mathlib.Core.Option.{Option, none, some}
 use Rattle.std.specs.Prelude.{Some, Ok, Err, Result}
 use Rattle.std.specs.Result.{OkIff, result_ok}
@@ -43,25 +43,26 @@ module _ (p : Pantry) (x : Name) (i : ℕ) where
       (ap (λ (b : Bool). cond b (some (numbered i q)) (lookup (numbered_from (suc i) (drop (suc i) p)) x)) t ∙
       ap from (sym (add-one i)))
 
-none-past : (p : Pantry) (i j d : ℕ) (z : ℤ) → length p ≤ i → none ≡ fetching d j z (get_elem? p i)
-none-past [] i j d z l = refl
-none-past (e ∷ p) zero j d z l = absurd (omega arith)
-none-past (e ∷ p) (suc i) j d z l = none-past p i j d z (omega arith)
+none-listed : (p : Pantry) (i j d : ℕ) (z : ℤ) → none ≡ get_elem? (stock_of p) i → none ≡ fetching d j z (get_elem? p i)
+none-listed [] i j d z h = refl
+none-listed (e ∷ p) zero j d z h = let z : ◌≡◌ {A = ℕ} 0 1 = cc in absurd (omega arith)
+none-listed (e ∷ p) (suc i) j d z h = none-listed p i j d z h
 
-some-there : (p : Pantry) (i j d : ℕ) (z : ℤ) → i < length p → some (hands (removed d) (fetched j z)) ≡ fetching d j z (get_elem? p i)
-some-there [] i j d z l = absurd (omega arith)
-some-there (e ∷ p) zero j d z l = refl
-some-there (e ∷ p) (suc i) j d z l = some-there p i j d z (omega arith)
+some-listed : (p : Pantry) (i j d : ℕ) (z : ℤ) (y : Name) (q : Kind) → some (bind y q) ≡ get_elem? (stock_of p) i →
+    some (hands (removed d) (fetched j z)) ≡ fetching d j z (get_elem? p i)
+some-listed [] i j d z y q h = let z : ◌≡◌ {A = ℕ} 0 1 = cc in absurd (omega arith)
+some-listed (e ∷ p) zero j d z y q h = refl
+some-listed (e ∷ p) (suc i) j d z y q h = some-listed p i j d z y q h
 
--- an entry outside the list is not asked
-pub asking-none : (m : Pantry) (w : Program) (d i : ℕ) (z : ℤ) (v : Value) → v ≡ integer z → length m ≤ i → none ≡
-    asking (stocked m w) d i v
-asking-none m w d i z v q l = none-past m i i d z l ∙ ap (asking (stocked m w) d i) (sym q)
+-- an entry that is not listed is not asked
+pub asking-none : (m : Pantry) (w : Program) (d i : ℕ) (z : ℤ) (v : Value) → v ≡ integer z → none ≡ get_elem? (stock_of m) i →
+    none ≡ asking (stocked m w) d i v
+asking-none m w d i z v q h = none-listed m i i d z h ∙ ap (asking (stocked m w) d i) (sym q)
 
-pub asking-some : (m : Pantry) (w : Program) (d i : ℕ) (z y : ℤ) (v : Value) → v ≡ integer z → y ≡ z → i < length m →
-    some (hands (removed d) (fetched i y)) ≡ asking (stocked m w) d i v
-asking-some m w d i z y v q e l =
-    ap (λ (n : ℤ). some (hands (removed d) (fetched i n))) e ∙ (some-there m i i d z l ∙ ap (asking (stocked m w) d i) (sym q))
+pub asking-some : (m : Pantry) (w : Program) (d i : ℕ) (z y : ℤ) (v : Value) (x : Name) (k : Kind) → v ≡ integer z → y ≡ z →
+    some (bind x k) ≡ get_elem? (stock_of m) i → some (hands (removed d) (fetched i y)) ≡ asking (stocked m w) d i v
+asking-some m w d i z y v x k q e h =
+    ap (λ (n : ℤ). some (hands (removed d) (fetched i n))) e ∙ (some-listed m i i d z x k h ∙ ap (asking (stocked m w) d i) (sym q))
 
 -- a number that was converted
 pub converted : {E : Type 0} → (r : Result ℕ E) (P : Type 0) (i n : ℕ) → OkIff r P i → Some n ≡ result_ok r → n ≡ i

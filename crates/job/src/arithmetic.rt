@@ -8,7 +8,7 @@ use crate::tables::Value;
 use grammar::tree::Operator;
 use pantry::entries::in_range;
 
-// A result, if it is not too large.
+// A result, if it is not too large. By one match: what is no `i32` and what is out of range stop alike.
 fn sized(z: i64) -> Result<Value, Reason>
     ensures { tried_of result ≡ sized_of z }
 {
@@ -28,8 +28,7 @@ pub(crate) fn computed(operator: Operator, left: i32, right: i32) -> Result<Valu
         Operator::Plus => sized(a + b),
         Operator::Minus => sized(a - b),
         Operator::Times => sized(a * b),
-        Operator::Over if b == 0 => Err(Reason::DivideByZero),
-        Operator::Over => sized(a / b),
+        Operator::Over => sized(a.checked_div(b).ok_or(Reason::DivideByZero)?),
         Operator::Less => Ok(Value::Boolean(a < b)),
     }
 }

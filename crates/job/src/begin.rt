@@ -45,7 +45,8 @@ impl<'r> Course<'r> {
         }
     }
 
-    // The next task, if one is left. By place and not by iterator: the place is kept from call to call.
+    // The next task, if one is left. By place, and not by what `split_first` leaves: what is left to define is told by the tree and a place,
+    // and the place is kept from call to call.
     fn next_task(&mut self) -> Option<Task>
         ensures { Takes self.old self.new result }
     {

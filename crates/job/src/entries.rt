@@ -1,4 +1,4 @@
-ghost use Rattle.std.specs.Prelude.{◌≡◌, ℕ, ◌<◌, List, length, pos, if◌then◌else◌, nat_lt};
+ghost use Rattle.std.specs.Prelude.{◌≡◌, ℕ, List, pos, if◌then◌else◌};
 ghost use Rattle.language.specs.Pantry.{by_item};
 ghost use Rattle.language.specs.Machine.{hands, kept, plain, fetched, pantry_procedure};
 ghost use Rattle.language.specs.Rules.{entry_for};
@@ -42,25 +42,18 @@ pub(crate) fn from_entry<P: Pantry>(pantry: &P, name: &[u8]) -> Option<Action>
     None
 }
 
-// Is there an entry of that number?
-fn is_listed<P: Pantry>(pantry: &P, entry: u8) -> bool
-    ensures { result ≡ nat_lt «entry» (length (P.meaning pantry.now)) }
-{
-    usize::from(entry) < pantry.count()
-}
-
-// A pantry procedure gets its argument.
+// A pantry procedure gets its argument, if its entry is listed.
 pub(crate) fn asked<P: Pantry>(pantry: &P, entry: u8, value: Value) -> Option<Action>
     ensures { AsksWith (P.meaning pantry.now) result (λ d w. asking w d «entry» (value_of value)) }
 {
-    let Value::Integer(argument) = value else {
-        return None;
-    };
-    if !is_listed(pantry, entry) {
-        return None;
+    match value {
+        Value::Integer(argument) => {
+            pantry.entry(usize::from(entry))?;
+            Some(Action::Hands {
+                frames: Frames::Removed,
+                what: Yield::Fetched { entry, argument },
+            })
+        }
+        _ => None,
     }
-    Some(Action::Hands {
-        frames: Frames::Removed,
-        what: Yield::Fetched { entry, argument },
-    })
 }

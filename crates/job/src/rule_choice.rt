@@ -1,6 +1,19 @@
 ghost use Rattle.std.specs.Prelude.{◌≡◌, ℕ, ◌-◌, List, map};
 ghost use Rattle.language.specs.Tree.{node_at};
-ghost use Rattle.language.specs.Machine.{value_cell, frame_at, nearest as nearest_of, hands, kept, plain, puts_down, await_first};
+ghost use Rattle.language.specs.Machine.{
+  value_cell,
+  frame_at,
+  nearest as nearest_of,
+  hands,
+  kept,
+  removed,
+  plain,
+  binds,
+  puts_down,
+  replaces,
+  await_first,
+  await_second as second,
+};
 ghost use Rattle.language.specs.Pantry.{Pantry as Meaning};
 ghost use Rattle.language.specs.Rules.{procedure_at};
 ghost use Rattle.language.specs.Step.{
@@ -20,7 +33,7 @@ ghost use Rattle.language.specs.Step.{
 ghost use Rattle.language.specs.Bindings.{spelled_in};
 ghost use Rattle.grammar.specs.Plain.{plain_o};
 ghost use Rattle.grammar.specs.Plan.{node_of};
-ghost use Rattle.job.specs.Maps.{value_of, frame_of, cell_of, target_of, action_of};
+ghost use Rattle.job.specs.Maps.{value_of, frame_of, target_of, action_of};
 ghost use Rattle.job.specs.Rules.{Asks, on_qualified};
 ghost use Rattle.job.specs.Machines.{text_of, Decides};
 
@@ -35,13 +48,6 @@ use language::bindings::Binding;
 use language::spans::{Span, spelled};
 use pantry::pantries::Pantry;
 use words::names::same_name;
-
-// The cell of a name that is bound to a value.
-fn bound(name: Span, value: Value, outer: u16) -> Cell
-    ensures { (text : List ℕ) → cell_of text result ≡ value_cell (spelled_in text name) (value_of value) outer }
-{
-    Cell::Bound(Binding { name, value, outer })
-}
 
 // A value is handed on, and the frames are kept.
 fn handed(value: Value) -> Action
@@ -64,59 +70,77 @@ fn put_down(part: u16, scope: u16, to: u16) -> Action
     }
 }
 
+// The value that the top frame waited for is bound, in the scope of a body.
+fn bind(name: Span, value: Value, outer: u16, to: u16) -> Action
+    ensures { (text : List ℕ) (d : ℕ) → action_of text d result ≡
+        binds (removed d) (value_cell (spelled_in text name) (value_of value) outer) to }
+{
+    Action::Binds {
+        frames: Frames::Removed,
+        cell: Cell::Bound(Binding { name, value, outer }),
+        to,
+    }
+}
+
+// A form whose first part has a value waits for its second.
+fn await_second(part: u16, scope: u16, value: Value, to: u16) -> Action
+    ensures { (text : List ℕ) (d : ℕ) → action_of text d result ≡ replaces d (second part scope (value_of value)) to scope }
+{
+    Action::Replaces {
+        frame: Frame::AwaitSecond { part, scope, value },
+        to,
+        scope,
+    }
+}
+
 // The value of `zero?`'s part.
 fn tested_zero(value: Value) -> Option<Action>
     ensures { Asks result (λ text d. testing_zero d (value_of value)) }
 {
-    let Value::Integer(z) = value else {
-        return None;
-    };
-    Some(Action::Hands {
-        frames: Frames::Removed,
-        what: Yield::Plain(Value::Boolean(z == 0)),
-    })
+    match value {
+        Value::Integer(z) => Some(Action::Hands {
+            frames: Frames::Removed,
+            what: Yield::Plain(Value::Boolean(z == 0)),
+        }),
+        _ => None,
+    }
 }
 
 // The value of a test.
 fn chosen(value: Value, scope: u16, consequent: u16, alternative: u16) -> Option<Action>
     ensures { Asks result (λ text d. choosing d scope consequent alternative (value_of value)) }
 {
-    let Value::Boolean(holds) = value else {
-        return None;
-    };
-    let to = if holds { consequent } else { alternative };
-    Some(Action::Branches { to, scope })
+    match value {
+        Value::Boolean(holds) => Some(Action::Branches {
+            to: if holds { consequent } else { alternative },
+            scope,
+        }),
+        _ => None,
+    }
 }
 
 // The value of the first part of a form.
 fn on_first(node: Node, part: u16, scope: u16, value: Value) -> Option<Action>
     ensures { Asks result (λ text d. on_first d part scope (value_of value) (node_of text node)) }
 {
-    let Node::Expression(node) = node else {
-        return None;
-    };
     match node {
-        ExpNode::IsZero { .. } => tested_zero(value),
-        ExpNode::Apply { operand, .. } => Some(Action::Replaces {
-            frame: Frame::AwaitSecond { part, scope, value },
-            to: operand,
-            scope,
-        }),
-        ExpNode::Let { name, body, .. } => Some(Action::Binds {
-            frames: Frames::Removed,
-            cell: bound(name, value, scope),
-            to: body,
-        }),
-        ExpNode::If {
-            consequent,
-            alternative,
-            ..
-        } => chosen(value, scope, consequent, alternative),
-        ExpNode::Binary { right, .. } => Some(Action::Replaces {
-            frame: Frame::AwaitSecond { part, scope, value },
-            to: right,
-            scope,
-        }),
+        Node::Expression(ExpNode::IsZero { .. }) => tested_zero(value),
+        Node::Expression(ExpNode::Apply { operand, .. }) => {
+            Some(await_second(part, scope, value, operand))
+        }
+        Node::Expression(ExpNode::Let { name, body, .. }) => {
+            Some(bind(name, value, scope, body))
+        }
+        Node::Expression(
+            ExpNode::If {
+                consequent,
+                alternative,
+                ..
+            },
+        ) => chosen(value, scope, consequent, alternative),
+        Node::Expression(ExpNode::Binary { right, .. }) => {
+            Some(await_second(part, scope, value, right))
+        }
         _ => None,
     }
 }
@@ -125,24 +149,19 @@ fn on_first(node: Node, part: u16, scope: u16, value: Value) -> Option<Action>
 fn called(node: Node, scope: u16, value: Value) -> Option<Action>
     ensures { Asks result (λ text d. calling d scope (value_of value) (procedure_at (node_of text node))) }
 {
-    let Node::Expression(node) = node else {
-        return None;
-    };
     match node {
-        ExpNode::Proc {
-            parameter,
-            body,
-            ..
-        }
-        | ExpNode::Letrec {
-            parameter,
-            body,
-            ..
-        } => Some(Action::Binds {
-            frames: Frames::Removed,
-            cell: bound(parameter, value, scope),
-            to: body,
-        }),
+        Node::Expression(
+            ExpNode::Proc {
+                parameter,
+                body,
+                ..
+            }
+            | ExpNode::Letrec {
+                parameter,
+                body,
+                ..
+            },
+        ) => Some(bind(parameter, value, scope, body)),
         _ => None,
     }
 }
@@ -151,17 +170,17 @@ fn called(node: Node, scope: u16, value: Value) -> Option<Action>
 fn operated(operator: Operator, left: Value, right: Value) -> Option<Action>
     ensures { Asks result (λ text d. computing d (plain_o operator) (value_of left) (value_of right)) }
 {
-    let (Value::Integer(left), Value::Integer(right)) = (left, right) else {
-        return None;
-    };
-    Some(Action::Hands {
-        frames: Frames::Removed,
-        what: Yield::Operation {
-            operator,
-            left,
-            right,
-        },
-    })
+    match (left, right) {
+        (Value::Integer(left), Value::Integer(right)) => Some(Action::Hands {
+            frames: Frames::Removed,
+            what: Yield::Operation {
+                operator,
+                left,
+                right,
+            },
+        }),
+        _ => None,
+    }
 }
 
 // No frame is left.
@@ -219,12 +238,11 @@ impl Machine<'_, '_, '_> {
         ensures { Decides (P.meaning pantry.now) self.now result
             (λ w s g. on_second w (g.frame_count - 1) (value_of first) (value_of value) (node_of (text_of self.now) node)) }
     {
-        let Node::Expression(node) = node else {
-            return None;
-        };
         match node {
-            ExpNode::Apply { .. } => self.applied(pantry, first, value),
-            ExpNode::Binary { operator, .. } => operated(operator, first, value),
+            Node::Expression(ExpNode::Apply { .. }) => self.applied(pantry, first, value),
+            Node::Expression(ExpNode::Binary { operator, .. }) => {
+                operated(operator, first, value)
+            }
             _ => None,
         }
     }
@@ -270,6 +288,7 @@ impl Machine<'_, '_, '_> {
         ensures { Decides (P.meaning pantry.now) self.now result
             (λ w s g. on_node w s g part scope (node_of (text_of self.now) node)) }
     {
+        // Taken apart before the match, so that no form of an expression can be left out.
         let Node::Expression(node) = node else {
             return None;
         };

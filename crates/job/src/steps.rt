@@ -41,6 +41,7 @@ impl Machine<'_, '_, '_> {
         ensures same { Same self.old self.new }
     {
         let end = made.saturating_add(allowance).min(STEP_LIMIT);
+        // What is counted is the answer.
         for steps in made..end {
             match self.step(pantry) {
                 Ok(None) => {}

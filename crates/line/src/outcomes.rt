@@ -11,7 +11,7 @@ pub enum Value {
     Procedure,
 }
 
-// The layer that refuses. What reads a text has an enum of its own two, since no other can refuse there.
+// The layer that refuses. The two that read a text have an enum of their own, since no other can refuse there.
 #[derive(Clone, Copy, PartialEq, Eq, Debug)]
 pub enum Layer {
     Words,
@@ -44,7 +44,8 @@ pub struct Refusal {
     pub layer: Layer,
 }
 
-// What a line tells: a job's answer, with a procedure's parts left out, or a refusal. No Result: the line tells each alike.
+// What a line tells: a job's answer, with a procedure's parts left out, or a refusal. No Result: the laws of the line speak of
+// all four cases alike.
 #[derive(Clone, Copy, Debug, PartialEq, Eq)]
 pub enum Outcome {
     Done { value: Value, steps: u32 },

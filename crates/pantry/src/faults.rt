@@ -16,6 +16,7 @@ pub enum LoadFault {
 }
 
 impl LoadFault {
+    // By cases: one that carries a place has no number of its own.
     pub fn number(self) -> u8
         ensures { result ≡ (refusal_of self).number }
     {

@@ -42,6 +42,7 @@ impl Items<'_> {
     fn kcal(&self, argument: i32) -> Option<Answer>
         ensures { answered result ≡ kcal_in (record_for (records_of self.now.file.now) argument) }
     {
+        // Not by `map`: within a closure it is not known that the figure fits.
         let record = self.record(argument)?;
         Some(Answer::Number(record.kcal as i32))
     }

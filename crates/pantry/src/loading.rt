@@ -20,6 +20,7 @@ fn first_unlawful(rows: &[Row]) -> Option<usize>
     ensures is { result ≡ unlawful_in [] (map record_of rows.now) }
     ensures within { IfSome result (λ k. k < length rows.now) }
 {
+    // Not by `position`: each row is held against the earlier ones.
     for (k, row) in rows.iter().enumerate() {
         if !is_lawful(&rows[..k], Record::from(*row)) {
             return Some(k);

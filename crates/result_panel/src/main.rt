@@ -8,11 +8,8 @@ use std::{fs, io};
 // The bytes of the item file; where there is none, those of a file without records.
 fn items(rt: &HostRuntime) -> io::Result<Vec<u8>> {
     match fs::read(rt, "items.nut") {
-        Ok(bytes) => Ok(bytes),
-        Err(e) => match e.kind() {
-            io::ErrorKind::NotFound => Ok(EMPTY_FILE.to_vec(rt.alloc())?),
-            _ => Err(e),
-        },
+        Err(e) if e.kind() == io::ErrorKind::NotFound => Ok(EMPTY_FILE.to_vec(rt.alloc())?),
+        read => read,
     }
 }
 

@@ -13,17 +13,17 @@ use line::{TooShort, write_refusal};
 use std::alloc::{AllocError, Global};
 use typing::types::{Slot, TypeEntry};
 
-// The line that says that the buffer is too short. It has 24 bytes, so the 0 is never given.
+// The line that says that the buffer is too short. It has 24 bytes.
 fn refused(heap: Global, fault: TooShort) -> Result<Vec<u8>, AllocError>
     ensures { IfOk result (λ v. v.items ≡ refusal_bytes line_refusal) }
 {
     let mut buffer = vec![in heap; 0u8; 24]?;
-    let len = write_refusal(fault.into(), &mut buffer).unwrap_or(0);
+    let len = write_refusal(fault.into(), &mut buffer).unwrap();
     buffer.truncate(len);
     Ok(buffer)
 }
 
-// The line, written over tables of repeated blank records.
+// The line, written over tables of repeated blank records. Apart from `line`, whose contract names the samples too.
 fn print(heap: Global, file: &[u8], text: &[u8], setup: Setup) -> Result<Vec<u8>, AllocError>
     ensures { IfOk result (λ v. v.items ≡ printed file.now text.now setup) }
 {

@@ -17,7 +17,7 @@ pub enum CheckFault {
 }
 
 impl CheckFault {
-    // By cases: one that carries a place has no number of its own.
+    // By cases, as the definition names them.
     pub fn number(self) -> u8
         ensures { result ≡ number_of self }
     {

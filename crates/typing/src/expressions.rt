@@ -251,7 +251,7 @@ impl Tables<'_, '_, '_> {
         self.type_of(outer, rest, levels)
     }
 
-    // A form that puts a name in scope. A match and no table of closures: each form has parts of its own.
+    // A form that puts a name in scope, apart from `type_of` to keep both short. A match and no table of closures: each form has parts of its own.
     #[cycle(expressions)]
     fn binder(&mut self, scope: Scope, form: ExpNode, levels: u8) -> Result<u16, CheckFault>
         requires holds { HasParts self.old.given levels form }

@@ -68,7 +68,7 @@ impl TypeEntry {
     }
 }
 
-// The place of an arrow or a hidden type among the first `count` types.
+// The place of an arrow or a hidden type among the first `count` types of a lent table.
 fn place_in(text: &[u8], types: &[TypeEntry], count: usize, wanted: TypeEntry) -> Option<usize>
     ensures { result ≡ position (alike text.now wanted) (take count types.now) }
 {

@@ -3,7 +3,7 @@ ghost use Rattle.words.specs.Names.{same_name, is_keyword};
 
 use crate::keywords::keyword_of;
 
-// Whether two names are the same. No other function says so.
+// Whether two names are the same. A function and not `==`, since the rule of sameness is stated here.
 pub fn same_name(a: &[u8], b: &[u8]) -> bool
     ensures { result ≡ same_name a.now b.now }
 {

@@ -57,6 +57,7 @@ fn name_len(rest: &[u8]) -> usize
     ensures value { result ≡ name_run rest.now }
     ensures within { result ≤ length rest.now }
 {
+    // Not by `position`: each step looks at the next byte too.
     for (n, &b) in rest.iter().enumerate() {
         if !goes_on(b, byte_at(rest, n + 1)) {
             return n;

@@ -12,18 +12,18 @@ returns-in_err-slot c =
     let z = c.spelled-wanted.ensures in
     search (rules, e, z)
 
-pub returns-then-defines : goal.returns-then-defines
+pub returns-in-Some : goal.returns-in-Some
 unfolding definition_n
-returns-then-defines c =
+returns-in-Some c =
     let h = c.in_ok-slot.ensures.lookup in
-    let e = c.loop-k.invariant ∙ def-here _ _ _ _ _ _ c.in_ok-slot.field-0.now c.from.result c.from.ensures c.loop-k-test.true h.3.0 h.1 (sym c.if-defines.ensures) in
+    let e = c.loop-k.invariant ∙ def-here _ _ _ _ _ _ c.in_ok-slot.field-0.now c.from.result c.from.ensures c.loop-k-test.true h.3.0 h.1 _ (sym c.in-Some.ensures) in
     let z = c.spelled-wanted.ensures in
     search (rules, e, z)
 
 pub loop-k-preserved : goal.loop-k-preserved
 loop-k-preserved c =
     let h = c.in_ok-slot.ensures.lookup in
-    c.loop-k.invariant ∙ def-on _ _ _ _ _ _ c.in_ok-slot.field-0.now c.from.result c.from.ensures c.loop-k-test.true h.3.0 h.1 (sym c.if-defines.ensures)
+    c.loop-k.invariant ∙ def-on _ _ _ _ _ _ c.in_ok-slot.field-0.now c.from.result c.from.ensures c.loop-k-test.true h.3.0 h.1 (sym c.in_default.ensures)
 
 pub returns : goal.returns
 unfolding definition_n
