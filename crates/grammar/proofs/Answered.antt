@@ -96,7 +96,7 @@ module _ (text : List ℕ) (ns ms : List Node) where
       let i : limit_of bs ≡ limit_of ns = ap (λ z. min (length z) 65535) b ∙ ap (λ k. min k 65535) (length-blanked ns) in
       subst (λ k. Filled (reading k text) r (blanked ns) ms) i (subst (λ z. Filled (reading (limit_of bs) text) r z ms) b h)
 
-  answered-ok : (close : ℕ) (bs : List Node) → bs ≡ blanked ns → Filled (reading (limit_of bs) text) (Ok close) bs ms
+  pub answered-ok : (close : ℕ) (bs : List Node) → bs ≡ blanked ns → Filled (reading (limit_of bs) text) (Ok close) bs ms
       → Answered (reading (limit_of ns) text) (Ok close) ns ms × Promises (Ok close) text ms × Judged (limit_of ns) text (Ok close)
   answered-ok close bs b h = go (reading (limit_of ns) text) refl (filled_at (Ok close) bs b h)
     where
@@ -113,7 +113,7 @@ module _ (text : List ℕ) (ns ms : List Node) where
           let r : reading 65535 text ≡ good s e = more_room (limit_of ns) text s e (omega arith) l in
           ((h.0, m), (t ∙ sym (ap nodes_read r), ap length t ∙ sym d), (s, at_length (limit_of ns) text s e l, c))
 
-  answered-err : (f : Fault) (bs cs : List Node) → bs ≡ blanked ns → length ms ≡ length ns → cs ≡ blanked ms
+  pub answered-err : (f : Fault) (bs cs : List Node) → bs ≡ blanked ns → length ms ≡ length ns → cs ≡ blanked ms
       → Filled (reading (limit_of bs) text) (Err f) bs ms
       → Answered (reading (limit_of ns) text) (Err f) ns cs × Judged (limit_of ns) text (Err f)
   answered-err f bs cs b e1 c h = go (reading (limit_of ns) text) refl (filled_at (Err f) bs b h)

@@ -6,7 +6,7 @@ use Rattle.language.specs.Job.{moment, running, finished, stopped, step_limit, c
 
 module _ (w : Program) (s : Store) (r : Registers) (a n : ℕ) where
   -- no step is left
-  advance-none : a ≡ 0 → stepping w a s (running r) n ≡ moment s (running r) n
+  pub advance-none : a ≡ 0 → stepping w a s (running r) n ≡ moment s (running r) n
   advance-none e = ap (λ (k : ℕ). stepping w k s (running r) n) e
 
   one-step : (b : ℕ) (o : Outcome) → a ≡ suc b → n < step_limit → o ≡ step w s r → stepping w a s (running r) n ≡
@@ -33,7 +33,7 @@ module _ (w : Program) (s : Store) (r : Registers) (a n : ℕ) where
       ap (λ (x : Store). moment x (stopped k) n) e ∙ sym (one-step (a - 1) (stop k) (omega arith) l q)
 
 -- no step is made past the limit
-advance-full : (w : Program) (s : Store) (r : Registers) (a n : ℕ) → step_limit ≤ n → stepping w a s (running r) n ≡
+pub advance-full : (w : Program) (s : Store) (r : Registers) (a n : ℕ) → step_limit ≤ n → stepping w a s (running r) n ≡
     moment s (running r) n
 advance-full w s r zero n h = refl
 advance-full w s r (suc a) n h =

@@ -1,6 +1,3 @@
-ghost use Rattle.std.specs.Prelude.{◌≤◌};
-ghost use Rattle.language.specs.Job.{step_limit};
-
 use crate::reasons::Reason;
 use crate::registers::Registers;
 use crate::tables::Value;
@@ -26,5 +23,4 @@ pub enum Answer {
 pub struct Progress {
     pub status: Status,
     pub steps: u32,
-    ghost counted: { steps ≤ step_limit },
 }

@@ -1,4 +1,5 @@
-ghost use Rattle.std.specs.Prelude.{◌≡◌};
+ghost use Rattle.std.specs.Prelude.{◌≡◌, ◌≤◌};
+ghost use Rattle.language.specs.Job.{step_limit};
 
 use crate::answers::Progress;
 use crate::course::Course;
@@ -10,4 +11,5 @@ pub struct Job<'t, 'r, 'y, 'e, 'n> {
     pub(crate) course: Course<'r>,
     pub(crate) progress: Progress,
     ghost same_tree: { course.tree.now ≡ pass.sheet.tree.now },
+    ghost counted: { progress.steps ≤ step_limit },
 }

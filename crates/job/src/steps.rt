@@ -39,6 +39,7 @@ impl Machine<'_, '_, '_> {
         ensures is { Advances (P.meaning pantry.now) self.old.sheet (lent_to self.old) (lent_to self.new)
             self.old.registers made allowance result }
         ensures same { Same self.old self.new }
+        ensures counted { result.steps ≤ step_limit }
     {
         let end = made.saturating_add(allowance).min(STEP_LIMIT);
         // What is counted is the answer.
@@ -92,6 +93,7 @@ pub(crate) fn stepping_on<'t, 'r, P: Pantry>(
         (record { course = course.new; cells = cells.new; frames = frames.new })
         registers made allowance result }
     ensures tree { course.new.tree ≡ course.old.tree }
+    ensures counted { result.steps ≤ step_limit }
 {
     let mut machine = Machine {
         sheet,

@@ -1,10 +1,14 @@
 -- The rows behind a header in order are the file's records.
-use Rattle.std.proofs.Common.{◌≡◌, ℕ, zero, suc, ◌+◌, ◌-◌, ◌<◌, ◌≤◌, ◌/◌, ◌%◌, true, false, List, [], ◌∷◌, ◌++◌, length, map, take, drop, get_or, Some, None, refl, sym, ap, ap₂, ◌∙◌, arith, drop-cons, add-one}
+use Rattle.std.proofs.Common.{◌≡◌, ℕ, zero, suc, ◌+◌, ◌-◌, ◌<◌, ◌≤◌, ◌/◌, ◌%◌, Bool, true, false, cond, ◌==◌, Option, List, [], ◌∷◌, ◌++◌, length, map, take, drop, get_or, ℤ, pos, negsuc, ◌<ℤ◌, Some, None, refl, sym, ap, ap₂, ◌∙◌, arith, drop-cons, add-one}
+use Rattle.std.proofs.lemmas.Int.{ints}
 use Rattle.std.proofs.lemmas.List.{get_or-take, get_or-drop, drop-drop, length-map, length-take, length-drop, take_all, drop_all, map-append, take_more}
+use Rattle.std.specs.List.{find}
+use Rattle.std.specs.Option.{option_map}
 use Rattle.std.specs.Simd.{first_chunks}
 use Rattle.pantry.specs.declared.records.Record.{Record}
-use Rattle.pantry.specs.FileFacts.{from_length}
-use Rattle.pantry.specs.File.{place, record_of, record_at, records_from, records_of, lawful_after, unlawful_in, unlawful_from, unlawful, count_of, header_ok, fault, at_record}
+use Rattle.pantry.specs.FileFacts.{from_length, header}
+use Rattle.pantry.specs.File.{place, record_of, record_at, records_from, records_of, lawful_after, unlawful_in, unlawful_from, unlawful, first_with, count_of, header_ok, fault, at_record, accepted}
+use Rattle.pantry.specs.Items.{record_for}
 
 pub exact : (f : List ℕ) → header_ok f ≡ true → length f ≡ place (count_of f)
 unfolding header_ok
@@ -51,6 +55,16 @@ rows-are f body rows left b e =
     let n : length body / 7 ≡ count_of f = sym b.rows_len ∙ e in
     ap (map record_of) b.rows_are ∙ rw (n, d) (rows-from f 0 (count_of f))
 
+-- an accepted file has a header, and no byte is left over behind its rows
+pub header_long : (f : List ℕ) → accepted f ≡ true → 7 ≤ length f
+header_long f e = omega (arith, exact f (header f e))
+
+pub rows-accepted : (f body : List ℕ) (rows : List (List ℕ)) (left : ℕ) → BodyOf f body rows left → accepted f ≡ true →
+    map record_of rows ≡ records_of f
+rows-accepted f body rows left b e =
+    let l : length body ≡ length f - 7 = rw b.body_is (omega (arith, length-take (length f - 7) (drop 7 f), length-drop 7 f)) in
+    rows-are f body rows left b (omega (arith, l, b.rows_len, b.long, exact f (header f e)))
+
 -- ── the first unlawful record ──
 
 longer : (f : List ℕ) (j k i n : ℕ) → i ≡ j + k → n ≡ k + 1 → records_from f j k ++ record_at f i ∷ [] ≡ records_from f j n
@@ -88,3 +102,34 @@ module _ (rows : List (List ℕ)) (k : ℕ) (h : k < length rows) where
 
 pub unlawful-end : (rows : List (List ℕ)) (k : ℕ) → length rows ≤ k → unlawful_in (map record_of (take k rows)) (map record_of (drop k rows)) ≡ None
 unlawful-end rows k h = rw (drop_all k rows h)
+
+-- ── the first row of an item ──
+
+picked : (b : Bool) (row : List ℕ) (o : Option (List ℕ)) (r : Option Record) → r ≡ option_map record_of o →
+    cond b (Some (record_of row)) r ≡ option_map record_of (cond b (Some row) o)
+picked true row o r e = refl
+picked false row o r e = e
+
+-- its record is the first record of the item
+pub first-mapped : (n : ℕ) (rows : List (List ℕ)) →
+    first_with n (map record_of rows) ≡ option_map record_of (find (λ (row : List ℕ). (record_of row).item == n) rows)
+first-mapped n [] = refl
+first-mapped n (row ∷ rows) = picked ((record_of row).item == n) row _ _ (first-mapped n rows)
+
+-- ── items that two bytes do not hold ──
+
+item-small : (f : List ℕ) (k : ℕ) → ((i : ℕ) → get_or f i 0 < 256) → (record_at f k).item < 65536
+unfolding record_at
+item-small f k b = omega (arith, b (place k), b (place k + 1))
+
+first-large : (f : List ℕ) (n k m : ℕ) → ((i : ℕ) → get_or f i 0 < 256) → 65536 ≤ n → first_with n (records_from f k m) ≡ None
+first-large f n k zero b h = refl
+first-large f n k (suc m) b h =
+    let s : (record_at f k).item < 65536 = item-small f k b in
+    let i : first_with n (records_from f (k + 1) m) ≡ None = first-large f n (k + 1) m b h in
+    grind arith
+
+pub found_large : (f : List ℕ) (z : ℤ) → ((i : ℕ) → get_or f i 0 < 256) → pos 65535 <ℤ z → record_for (records_of f) z ≡ None
+unfolding records_of
+found_large f (pos n) b h = first-large f n 0 (count_of f) b (omega (arith, ints))
+found_large f (negsuc n) b h = refl

@@ -8,7 +8,7 @@ ghost use Rattle.pantry.specs.ItemLaws.{items_lawful};
 use crate::entries::{Answer, Entry, Kind, in_range};
 use crate::items::Items;
 use crate::pantries::Pantry;
-use crate::records::{Record, Row, find, rows};
+use crate::records::{HEADER, Record, Row, find};
 
 const ENTRIES: [Entry; 3] = [
     Entry {
@@ -25,18 +25,33 @@ const ENTRIES: [Entry; 3] = [
     },
 ];
 
+// the record of the item that is asked for
+fn found(file: &[u8], rows: &[Row], argument: i32) -> Option<Record>
+    requires { map record_of rows.now ≡ records_of file.now }
+    ensures { result ≡ record_for (records_of file.now) argument }
+{
+    // No row has an item that two bytes do not hold.
+    if argument > i32::from(u16::MAX) {
+        return None;
+    }
+    find(rows, u32::try_from(argument).ok()?)
+}
+
 impl Items<'_> {
+    // The rows behind the header, which was judged when the file was loaded.
+    #[tactic(auto, using(crate::proofs::Rows::header_long))]
     fn rows(&self) -> &[Row]
         ensures { map record_of result.now ≡ records_of self.now.file.now }
     {
-        rows(self.file).unwrap()
+        let (rows, _) = self.file[HEADER..].as_chunks::<7>();
+        rows
     }
 
     // the record of the item that is asked for
     fn record(&self, argument: i32) -> Option<Record>
         ensures { result ≡ record_for (records_of self.now.file.now) argument }
     {
-        find(self.rows(), u32::try_from(argument).ok()?)
+        found(self.file, self.rows(), argument)
     }
 
     fn kcal(&self, argument: i32) -> Option<Answer>

@@ -9,16 +9,26 @@ pub struct Record {
     pub flag: u8,
 }
 
+// How many bytes stand before the first record.
+pub(crate) const HEADER: usize = 7;
+
 // The bytes of a record.
 pub(crate) type Row = [u8; 7];
+
+// the item of a row's record
+fn item_of(row: Row) -> u16
+    ensures { result ≡ (record_of row).item }
+{
+    u16::from_be_bytes([row[0], row[1]])
+}
 
 impl From<Row> for Record {
     ghost from_gives = { λ row r. r ≡ record_of row };
 
     fn from(row: Row) -> Record {
-        let [i0, i1, k0, k1, k2, k3, flag] = row;
+        let [_, _, k0, k1, k2, k3, flag] = row;
         Record {
-            item: u16::from_be_bytes([i0, i1]),
+            item: item_of(row),
             kcal: u32::from_be_bytes([k0, k1, k2, k3]),
             flag,
         }
@@ -40,12 +50,12 @@ pub(crate) fn rows(file: &[u8]) -> Option<&[Row]>
     Some(rows)
 }
 
-// the first record that has the item
+// the first record that has the item; of the other rows no more than the item is read
 pub(crate) fn find(rows: &[Row], item: u32) -> Option<Record>
     ensures { result ≡ first_with item (map record_of rows.now) }
 {
     rows.iter()
+        .find(|row| u32::from(item_of(**row)) == item)
         .copied()
         .map(Record::from)
-        .find(|record| u32::from(record.item) == item)
 }

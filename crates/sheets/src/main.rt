@@ -3,22 +3,25 @@
 
 mod cases;
 
-use cases::Case;
+use cases::{Case, split};
 use std::fs;
 use std::io::Write;
 
 // What one line of the data file says.
-fn follow(rt: &HostRuntime, case: &mut Case, line: &str) -> anyhow::Result<()> {
-    if line.is_empty() || line.starts_with('#') {
-        return Ok(());
-    }
-    let (word, argument) = line.split_once(' ').unwrap_or((line, ""));
+fn follow(rt: &HostRuntime, case: &mut Case, line: &[u8]) -> anyhow::Result<()> {
+    let mut out = rt.stdout();
+    let (word, argument) = split(line);
     match word {
-        "group" => println!(rt; "== {argument}")?,
-        "run" => {
+        [] | [b'#', ..] => {}
+        b"group" => {
+            out.write_all(b"== ")?;
+            out.write_all(argument)?;
+            out.write_all(b"\n")?;
+        }
+        b"run" => {
             let line = results::line(rt.alloc(), &case.items, &case.text, case.setup)?;
-            let mut out = rt.stdout();
-            write!(out, "{}: ", case.name)?;
+            out.write_all(&case.name)?;
+            out.write_all(b": ")?;
             out.write_all(&line)?;
         }
         _ => case.change(rt.alloc(), word, argument)?,
@@ -27,9 +30,9 @@ fn follow(rt: &HostRuntime, case: &mut Case, line: &str) -> anyhow::Result<()> {
 }
 
 fn main(rt: HostRuntime) -> anyhow::Result<()> {
-    let data = fs::read_to_string(&rt, "sheets.txt")?;
-    let mut case = Case::new(rt.alloc(), "")?;
-    for line in data.split('\n') {
+    let data = fs::read(&rt, "sheets.txt")?;
+    let mut case = Case::new(rt.alloc())?;
+    for line in data.split(|b| *b == b'\n') {
         follow(&rt, &mut case, line)?;
     }
     Ok(())

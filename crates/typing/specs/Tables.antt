@@ -17,7 +17,7 @@ use Rattle.grammar.specs.declared.tree.ExpNode.{ExpNode}
 use Rattle.grammar.specs.declared.tree.ExpNode.TheVariants as ex
 use Rattle.grammar.specs.declared.tree.Node.{Node}
 use Rattle.grammar.specs.declared.tree.Node.TheVariants as node
-use Rattle.grammar.specs.Table.{type_at, exp_of, exp_at}
+use Rattle.grammar.specs.Table.{type_at, exp_at}
 use Rattle.rules.specs.declared.faults.CheckFault.{CheckFault}
 use Rattle.rules.specs.declared.faults.CheckFault.TheVariants.{TooDeep, TypesFull, ScopeFull, Unwanted}
 use Rattle.rules.specs.Forms.{Out, bad, good, want, give, ◌>>=◌, ◌>>◌, Keeping, named_t, qualified_t, arrow_t, variable_f, qualified_f, is_zero_f, binary_f, apply_f, proc_f, let_f, conditional_f, body_f, letrec_f}
@@ -269,20 +269,6 @@ form_e w type part (ex.If at i j k) g = conditional_f (tables w) (part i g) (pla
 form_e w type part (ex.Letrec at u f x t b k) g = letrec_f (tables w) at f x (type u) (type t) (part b) (placed w b) (part k) g
 form_e w type part (ex.Binary at o j k) g = binary_f (tables w) (result_n o) (part j g) (placed w j) (part k g) (placed w k)
 
--- is it a form that puts a name in scope?
-abbrev pub binds : ExpNode → Bool
-binds (ex.Number at v) = false
-binds (ex.Boolean at b) = false
-binds (ex.Variable x) = false
-binds (ex.From at m x) = false
-binds (ex.IsZero at j) = false
-binds (ex.Apply at j k) = false
-binds (ex.Proc at x t b) = true
-binds (ex.Let at x j k) = true
-binds (ex.If at i j k) = false
-binds (ex.Letrec at u f x t b k) = true
-binds (ex.Binary at o j k) = false
-
 abbrev pub on_exp : (ExpNode → Check) → Option Node → Check
 on_exp f None g = other g
 on_exp f (Some node.Blank) g = other g
@@ -321,9 +307,6 @@ module _ (w : Given) (levels : ℕ) where
   abbrev pub body_n : (at : ℕ) → Span → (a b p : ℕ) → Scope → State → Out State Unit
   body_n at x a b p g = body_f (tables w) at x a b (typed p) (placed w p) g
 
-  abbrev pub form_n : ExpNode → Check
-  form_n = form_e w (expand_n w levels) (type_n w levels)
-
   abbrev pub letrec_n : (at : ℕ) → Span → Span → (u t p q : ℕ) → Check
   letrec_n at f x u t p q g = letrec_f (tables w) at f x (expand_n w levels u) (expand_n w levels t) (typed p) (placed w p) (typed q) g
 
@@ -361,7 +344,3 @@ HasType w levels i = is_some (type_at levels w.text.now w.tree.now i) ≡ true
 -- the place i of the tree stands for an expression of at most so many levels
 abbrev pub HasExp : Given → ℕ → ℕ → Type 0
 HasExp w levels i = is_some (exp_at levels w.text.now w.tree.now i) ≡ true
-
--- the parts of an expression's node stand for parts of at most so many levels
-abbrev pub HasParts : Given → ℕ → ExpNode → Type 0
-HasParts w levels n = is_some (exp_of w.text.now (type_at levels w.text.now w.tree.now) (exp_at levels w.text.now w.tree.now) n) ≡ true

@@ -2,7 +2,7 @@ ghost use Rattle.std.specs.Prelude.{◌≡◌, ℕ, ◌+◌, ◌-◌, ◌<◌, �
 ghost use Rattle.grammar.specs.Table.{type_of, type_at, exp_of, exp_at};
 ghost use Rattle.typing.specs.Tables.{place_of, placed, form_t, expand_n, form_e, type_n, result_n, Gives, HasType, HasExp};
 ghost use Rattle.rules.specs.declared.faults.CheckFault.TheVariants.{Unwanted};
-ghost use Rattle.typing.specs.Tables.{is_zero_n, binary_n, apply_n, proc_n, let_n, conditional_n, body_n, letrec_n, binds as is_binder, form_n, HasParts};
+ghost use Rattle.typing.specs.Tables.{is_zero_n, binary_n, apply_n, proc_n, let_n, conditional_n, body_n, letrec_n};
 
 use crate::tables::{BOOL, INT, Tables};
 use crate::types::Scope;
@@ -251,47 +251,13 @@ impl Tables<'_, '_, '_> {
         self.type_of(outer, rest, levels)
     }
 
-    // A form that puts a name in scope, apart from `type_of` to keep both short. A match and no table of closures: each form has parts of its own.
-    #[cycle(expressions)]
-    fn binder(&mut self, scope: Scope, form: ExpNode, levels: u8) -> Result<u16, CheckFault>
-        requires holds { HasParts self.old.given levels form }
-        requires binds { is_binder form ≡ true }
-        ensures { Gives (form_n self.old.given levels form scope) result self.old self.new }
-    {
-        match form {
-            ExpNode::Proc {
-                at,
-                parameter,
-                of,
-                body,
-            } => self.procedure(scope, at, parameter, of, body, levels),
-            ExpNode::Let {
-                at,
-                name,
-                bound,
-                body,
-            } => self.let_in(scope, at, name, bound, body, levels),
-            ExpNode::Letrec {
-                at,
-                result,
-                name,
-                parameter,
-                of,
-                body,
-                rest,
-            } => { self.letrec(scope, at, name, parameter, result, of, body, rest, levels) }
-            _ => unreachable(),
-        }
-    }
-
-    // The number of the type of the expression at `i`. A match and no table of closures, as above.
+    // The number of the type of the expression at `i`. A match and no table of closures: each form has parts of its own.
     #[cycle(expressions)]
     pub fn type_of(&mut self, scope: Scope, i: u16, levels: u8) -> Result<u16, CheckFault>
         requires { HasExp self.old.given levels i }
         ensures { Gives (type_n self.old.given levels i scope) result self.old self.new }
     {
-        let form = self.expression(i, levels);
-        match form {
+        match self.expression(i, levels) {
             ExpNode::Number { .. } => Ok(INT),
             ExpNode::Boolean { .. } => Ok(BOOL),
             ExpNode::Variable { name } => {
@@ -320,8 +286,38 @@ impl Tables<'_, '_, '_> {
                 right,
                 ..
             } => self.binary(scope, operator, left, right, levels - 1),
-            ExpNode::Proc { .. } | ExpNode::Let { .. } | ExpNode::Letrec { .. } => {
-                self.binder(scope, form, levels - 1)
+            ExpNode::Proc {
+                at,
+                parameter,
+                of,
+                body,
+            } => self.procedure(scope, at, parameter, of, body, levels - 1),
+            ExpNode::Let {
+                at,
+                name,
+                bound,
+                body,
+            } => self.let_in(scope, at, name, bound, body, levels - 1),
+            ExpNode::Letrec {
+                at,
+                result,
+                name,
+                parameter,
+                of,
+                body,
+                rest,
+            } => {
+                self.letrec(
+                    scope,
+                    at,
+                    name,
+                    parameter,
+                    result,
+                    of,
+                    body,
+                    rest,
+                    levels - 1,
+                )
             }
         }
     }

@@ -15,7 +15,7 @@ onward-same g bs p (fault k q) f h t same = refl
 onward-same g bs p (word k q w) f h t same = rw (same (length w) t.2 (fits w bs t.1))
 
 -- how many words are asked for does not matter where it is more than the bytes
-enough : (n m p : ℕ) (bs : List ℕ) → length bs < n → length bs < m → lexed_from n p bs ≡ lexed_from m p bs
+pub enough : (n m p : ℕ) (bs : List ℕ) → length bs < n → length bs < m → lexed_from n p bs ≡ lexed_from m p bs
 unfolding lexed_from
 enough zero m p bs h k = absurd (omega arith)
 enough (suc n) zero p bs h k = absurd (omega arith)

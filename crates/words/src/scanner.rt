@@ -1,4 +1,4 @@
-ghost use Rattle.std.specs.Prelude.{◌≡◌, ◌+◌, ◌<◌, ◌≤◌, [], ◌∷◌, false, length, take, drop, slice_index};
+ghost use Rattle.std.specs.Prelude.{◌≡◌, ◌+◌, ◌<◌, ◌≤◌, false, length, take, drop, slice_index};
 ghost use Rattle.words.specs.Classes.{class_of};
 ghost use Rattle.words.specs.Spelling.{mark_of};
 ghost use Rattle.words.specs.Words.{gap, goes, name_run, digit_run, named};
@@ -41,13 +41,13 @@ fn gap_len(rest: &[u8]) -> usize
     rest.len()
 }
 
-// Whether a byte goes on with a name, where `next` stands behind it: a dash directly before `>` does not.
-fn goes_on(b: u8, next: u8) -> bool
-    ensures { result ≡ goes (class_of b) (next ∷ []) }
+// Whether a byte goes on with a name, where `behind` stands behind it: a dash directly before `>` does not.
+fn goes_on(b: u8, behind: &[u8]) -> bool
+    ensures { result ≡ goes (class_of b) behind.now }
 {
     match class_of(b) {
         Class::Letter | Class::Digit | Class::Query => true,
-        Class::Dash => next != b'>',
+        Class::Dash => byte_at(behind, 0) != b'>',
         _ => false,
     }
 }
@@ -57,9 +57,9 @@ fn name_len(rest: &[u8]) -> usize
     ensures value { result ≡ name_run rest.now }
     ensures within { result ≤ length rest.now }
 {
-    // Not by `position`: each step looks at the next byte too.
+    // Not by `position`: a step may look at the next byte too.
     for (n, &b) in rest.iter().enumerate() {
-        if !goes_on(b, byte_at(rest, n + 1)) {
+        if !goes_on(b, &rest[n + 1..]) {
             return n;
         }
     }
